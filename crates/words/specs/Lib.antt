@@ -1,0 +1,12 @@
+pub mod Range
+pub mod Rows
+pub mod Reads
+pub mod Repeats
+pub mod Lists
+pub mod Groups
+pub mod Moves
+pub mod Replay
+pub mod Steps
+pub mod Logs
+pub mod Answers
+pub mod Calls

@@ -1,0 +1,90 @@
+# The reads that the stored results are made from: known, Fibonacci words, and seeded ones.
+
+ROUNDS = 33  # reads of each seeded kind
+DNA = b"ACGT"
+
+class Dice:
+    # Written out so that the reads never depend on a Python version: xorshift, 32 bits.
+    def __init__(self, seed):
+        self.state = seed
+
+    def below(self, k):
+        self.state ^= self.state << 13 & 0xFFFFFFFF
+        self.state ^= self.state >> 17
+        self.state ^= self.state << 5 & 0xFFFFFFFF
+        return self.state % k
+
+    def between(self, low, high):
+        return low + self.below(high - low + 1)
+
+    def word(self, letters, n):
+        return bytes(letters[self.below(len(letters))] for _ in range(n))
+
+def known():
+    # R6 and R7 are about the read of R5, so it stands three times
+    return [b"", b"A", b"AA", b"AAAA", b"ACAACACA", b"ACAACACA", b"ACAACACA",
+            b"ACACACA", b"ACGTACGT", b"ACGT", b"ACACACAC", b"NNNN"]
+
+def fibonacci():
+    words = [b"A", b"AC"]
+    while len(words[-1]) < 987:
+        words.append(words[-1] + words[-2])
+    return words
+
+def dna(dice):
+    return dice.word(DNA, dice.between(1, 60))
+
+def two_letters(dice):
+    return dice.word(b"AC", dice.between(1, 60))
+
+def all_bytes(dice):
+    # byte 10 would end the line, so it becomes 11
+    return dice.word(bytes(range(256)), dice.between(1, 60)).replace(b"\n", b"\x0b")
+
+def microsatellite(dice):
+    return dice.word(DNA, dice.between(1, 6)) * dice.between(2, 12)
+
+def planted(dice):
+    before = dice.word(DNA, dice.between(0, 15))
+    return before + microsatellite(dice) + dice.word(DNA, dice.between(0, 15))
+
+def power_with_error(dice):
+    x = bytearray(dice.word(DNA, dice.between(1, 5)) * dice.between(2, 10))
+    x[dice.below(len(x))] = dice.word(DNA + b"N", 1)[0]
+    return bytes(x)
+
+def palindrome(dice):
+    half = dice.word(DNA, dice.between(1, 20))
+    return half + half[::-1][dice.below(2):]  # of even or odd length
+
+def ends_in_zero(dice):
+    # an unused place of a work room may hold 0 too, so 0 also stands inside
+    return dice.word(b"\0A", dice.between(0, 20)) + b"\0" * dice.between(1, 5)
+
+def one_letter(dice):
+    return dice.word(b"ACGTN", 1) * dice.between(1, 40)
+
+def there_and_back(dice):
+    k = dice.between(1, 15)
+    return b"AC" * k + b"CA" * k
+
+def many_planted(dice, n):
+    x = b""
+    while len(x) < n:
+        x += planted(dice)
+    return x[:n]
+
+def long_ones(dice):
+    return [dice.word(DNA, 150), dice.word(b"AC", 150), many_planted(dice, 150),
+            b"ACGTT" * 17 + b"G" + b"ACGTT" * 12 + b"ACGT",
+            dice.word(DNA, 1000), many_planted(dice, 1000), b"A" * 1000,
+            b"AC" * 250 + b"CA" * 250]
+
+def seeded():
+    dice = Dice(20011)
+    kinds = [dna, two_letters, all_bytes, planted, power_with_error, palindrome,
+             ends_in_zero, one_letter, there_and_back]
+    return [kind(dice) for _ in range(ROUNDS) for kind in kinds] + long_ones(dice)
+
+def every():
+    return known() + fibonacci() + seeded()

@@ -1,0 +1,150 @@
+# The definitions of document 01 as pure functions over a bytes read x, positions from 1.
+
+from collections import Counter
+from functools import lru_cache
+
+LIMIT = 1000  # the largest read length
+LINES = 10000  # the printing program's room
+
+@lru_cache(maxsize=1000)  # a long read shows the same motif at many starts
+def primitive(u):
+    p = len(u)
+    return not any(p % d == 0 and u[:d] * (p // d) == u for d in range(1, p))
+
+def copies(x, i, p):
+    u = x[i - 1:i - 1 + p]
+    e = 1
+    # a slice cut short by the read's end is shorter than u, so it never matches
+    while x[i - 1 + e * p:i - 1 + (e + 1) * p] == u:
+        e += 1
+    return e
+
+def leads(x, i, p):
+    return i <= p or x[i - p - 1:i - 1] != x[i - 1:i - 1 + p]
+
+def repeats(x, mode):
+    found = []
+    for p in range(1, len(x) // 2 + 1):  # two copies of a longer motif do not fit
+        for i in range(1, len(x) - 2 * p + 2):  # nor do two copies from a later start
+            e = copies(x, i, p)
+            if e >= 2 and primitive(x[i - 1:i - 1 + p]) and (mode == 0 or leads(x, i, p)):
+                found.append((i, p, e))
+    return found
+
+def claim(x, i, p, e):
+    # this comes first so that no huge string is ever built
+    if i < 1 or p < 1 or e < 2 or i + p * e - 1 > len(x):
+        return False
+    rest = x[i - 1:]
+    u = rest[:p]
+    stands = rest.startswith(u * e) and not rest.startswith(u * (e + 1))
+    # where k does not divide p the string written k times is too short to be u
+    return stands and not any(u[:p // k] * k == u for k in range(2, p + 1))
+
+def top(n):
+    return max(1, n // 2)
+
+@lru_cache(maxsize=2)  # small and moves ask again for two widths; no caller changes a table
+def table(x, w):
+    least, names = {}, []
+    for i in range(1, len(x) + 1):
+        stretch = x[i - 1:i - 1 + w]
+        # a stretch that does not fit leaves its position alone
+        names.append(least.setdefault(stretch, i) if len(stretch) == w else i)
+    return names
+
+def small(x, w):
+    size = Counter(table(x, w))
+    if w == 1:
+        return sorted(size)
+    before = table(x, w - 1)
+    parts = {}
+    for s in size:
+        parts.setdefault(before[s - 1], []).append(s)
+    # the largest part is big; where parts tie, the one with the smallest name
+    big = {min(names, key=lambda s: (-size[s], s)) for names in parts.values()}
+    return sorted(s for s in size if s not in big)
+
+def moves(x, w):
+    names = table(x, w)
+    chosen = set(small(x, w))
+    # position 1 has no left neighbour to move
+    return sorted((w, s, j - 1) for j, s in enumerate(names, 1) if j >= 2 and s in chosen)
+
+def log(x):
+    return [move for w in range(1, top(len(x))) for move in moves(x, w)]
+
+def M(n):
+    return (n - 1) * n.bit_length() if n >= 2 else 0  # n.bit_length() is 1 + L
+
+def flat(triples):
+    return [number for triple in triples for number in triple]
+
+def entries(numbers):
+    return [tuple(numbers[k:k + 3]) for k in range(0, len(numbers) - 2, 3)]
+
+def first_bad(n, numbers):
+    whole, moved = entries(numbers), set()
+    for k, (w, s, j) in enumerate(whole):
+        inside = 1 <= w <= top(n) - 1 and 1 <= s <= n and 1 <= j <= n - 1
+        after = k == 0 or whole[k - 1] < whole[k]
+        if not inside or not after or (w, j) in moved:
+            return k
+        moved.add((w, j))
+    return len(whole) if len(numbers) % 3 else None  # leftover numbers are one bad entry
+
+def replay(x, numbers, w):
+    # to share at w is to share at width 1 and to have moved alike at each width below w
+    history = [[byte] for byte in x]
+    for v, s, j in entries(numbers):
+        if v < w:
+            history[j - 1].append((v, s))
+    least = {}
+    return [least.setdefault(tuple(h), i) for i, h in enumerate(history, 1)]
+
+def front(numbers, buffer):
+    return numbers + buffer[len(numbers):]
+
+# Each answer is (number, value, buffer after); number 0 is success.
+
+def answer_list(x, mode, buffer):
+    n = len(x)
+    if n > LIMIT: return 1, n, buffer
+    if mode not in (0, 1): return 2, mode, buffer
+    lines = repeats(x, mode)
+    if len(buffer) // 3 < len(lines): return 3, len(lines), [0] * len(buffer)
+    return 0, len(lines), front(flat(lines), buffer)
+
+def answer_group_table(x, w, buffer):
+    n = len(x)
+    if n > LIMIT: return 1, n, buffer
+    if not 1 <= w <= n: return 2, w, buffer
+    if len(buffer) < n: return 4, n, buffer
+    return 0, n, front(table(x, w), buffer)
+
+def answer_log(x, buffer):
+    n = len(x)
+    if n > LIMIT: return 1, n, buffer
+    if len(buffer) < 3 * M(n): return 4, 3 * M(n), buffer
+    numbers = flat(log(x))
+    return 0, len(numbers) // 3, front(numbers, buffer)
+
+def answer_replay(x, numbers, w, buffer):
+    n = len(x)
+    if n > LIMIT: return 1, n, buffer
+    if n == 0 or not 1 <= w <= top(n): return 2, w, buffer
+    if len(buffer) < n: return 4, n, buffer
+    bad = first_bad(n, numbers)
+    if bad is not None: return 5, bad, buffer
+    return 0, n, front(replay(x, numbers, w), buffer)
+
+def answer_claim(x, i, p, e):
+    if len(x) > LIMIT: return 1, len(x), None
+    return 0, claim(x, i, p, e), None  # this call is lent no buffer
+
+def printed(x, mode):
+    number, value, buffer = answer_list(x, mode, [0] * (3 * LINES))
+    if number:
+        return "refused %d %d\n" % (number, value)
+    lines = ["%d %d %d\n" % line for line in entries(buffer[:3 * value])]
+    return "read %d repeats %d\n" % (len(x), value) + "".join(lines)
