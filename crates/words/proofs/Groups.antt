@@ -9,10 +9,10 @@ use lib.ListN.{length}
 use lib.Dec.{eqb}
 use borrow.Author.Tests.{leb-true, le-leb, eqb-true, eq-eqb}
 use Rattle.words.specs.Reads.{at, fits, alike}
-use Rattle.words.specs.Groups.{share, name, table}
+use Rattle.words.specs.Groups.{share, name, table, Least}
 use Rattle.words.proofs.Tests.{and-left, and-right, or-cases, or-right}
 use Rattle.words.proofs.Ranges.{length-column}
-use Rattle.words.proofs.Leaders.{Equivalence, Least, leaders-at, leaders-least, leaders-test}
+use Rattle.words.proofs.Leaders.{Equivalence, leaders-at, leaders-least, leaders-test}
 use Rattle.words.proofs.Stretches.{Alike, alike-is, is-alike, alike-more, alike-less, alike-next}
 
 module _ (x : List ℕ) where

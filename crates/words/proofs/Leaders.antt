@@ -11,6 +11,7 @@ use lib.Dec.{eqb}
 use borrow.Author.Tests.{eqb-true, eq-eqb}
 use Rattle.words.specs.Range.{leader, column}
 use Rattle.words.specs.Reads.{at}
+use Rattle.words.specs.Groups.{Least}
 use Rattle.words.proofs.Tests.{same-test, clash, lt-or-ge}
 use Rattle.words.proofs.Ranges.{found, Found, at-column, length-column}
 
@@ -56,12 +57,6 @@ module _ (r : ℕ → ℕ → Bool) (E : Equivalence r) where
 
   pub leader-own : (i : ℕ) → 1 ≤ i → leader r (leader r i) ≡ leader r i
   leader-own i h = leader-same (leader r i) i (leader-low i) h (leader-joins i h)
-
--- a table of least names: each entry is a position that is not above its own and that names its own group
-pub record Least (t : List ℕ) : Type 0 where
-  pub low : (i : ℕ) → 1 ≤ i → i ≤ length t → 1 ≤ at t i
-  pub high : (i : ℕ) → 1 ≤ i → i ≤ length t → at t i ≤ i
-  pub own : (i : ℕ) → 1 ≤ i → i ≤ length t → at t (at t i) ≡ at t i
 
 module _ (r : ℕ → ℕ → Bool) (E : Equivalence r) (n : ℕ) where
   abbrev leaders : List ℕ

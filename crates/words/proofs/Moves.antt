@@ -11,10 +11,10 @@ use lib.Dec.{eqb}
 use borrow.Author.Tests.{eq-eqb, ne-eqb, lt-ltb, le-ltb}
 use Rattle.words.specs.Range.{gather}
 use Rattle.words.specs.Reads.{at}
+use Rattle.words.specs.Groups.{Least}
 use Rattle.words.specs.Moves.{moveOf, moveAt, movesOf, movesIn, goes}
 use Rattle.words.specs.Replay.{under}
 use Rattle.words.proofs.Tests.{eqb-self, lt-or-ge}
-use Rattle.words.proofs.Leaders.{Least}
 
 -- a list of whole moves, whose names are not 0
 pub data Whole : List ℕ → Type 0 where

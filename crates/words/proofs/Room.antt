@@ -12,12 +12,11 @@ use lib.Pow.{pow-mono}
 use borrow.Author.Tests.{ltb-true, ltb-false, ne-eqb, not-true}
 use Rattle.words.specs.Range.{sum, bit, count, gather}
 use Rattle.words.specs.Reads.{at}
-use Rattle.words.specs.Groups.{table, size, big, smalls}
+use Rattle.words.specs.Groups.{table, size, big, smalls, Least}
 use Rattle.words.specs.Moves.{moveOf, moveSize, moveAt, movesOf, movesIn, moveCount, moves, log, top, log2, M}
 use Rattle.words.proofs.Tests.{lt-or-ge, eqb-self, bit-le}
 use Rattle.words.proofs.Ranges.{found, Found}
 use Rattle.words.proofs.Sums.{sum-same, sum-le, sum-const, sum-zero, sum-times, sum-only, sum-swap, sum-more, length-gather}
-use Rattle.words.proofs.Leaders.{Least}
 use Rattle.words.proofs.Groups.{table-length, table-least, table-share, share-table, share-less}
 use Rattle.words.proofs.Small.{halves, falls, size-pos, size-le, table-refines}
 use Rattle.words.proofs.Split.{next-small}

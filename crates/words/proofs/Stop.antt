@@ -12,11 +12,10 @@ use borrow.Author.Tests.{eq-eqb, ne-eqb, eqb-true, le-leb, le-ltb}
 use Rattle.words.specs.Range.{gather, bit, leader}
 use Rattle.words.specs.Reads.{at}
 use Rattle.words.specs.Lists.{linesAt, lines}
-use Rattle.words.specs.Groups.{share, name, table, size, beats, big, partsSmall, smalls, gap}
+use Rattle.words.specs.Groups.{share, name, table, size, beats, big, partsSmall, smalls, gap, Least}
 use Rattle.words.specs.Moves.{goes, movesOf, movesIn, moves, log, top}
 use Rattle.words.proofs.Tests.{either, same-test, or-left, or-right, and-both, lt-or-ge}
 use Rattle.words.proofs.Ranges.{every-of, column-same, leader-agrees, gather-none, gather-stop}
-use Rattle.words.proofs.Leaders.{Least}
 use Rattle.words.proofs.Groups.{Share, share-is, is-share, table-length, table-least, table-share, share-table}
 use Rattle.words.proofs.Small.{parts-small-at, smalls-next}
 use Rattle.words.proofs.Split.{share-split, goes-stays, leaving}
