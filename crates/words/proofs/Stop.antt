@@ -8,13 +8,14 @@ use mathlib.Core.List.{List, []}
 use native.Mathlib.Omega.{arith}
 use lib.ListN.{length}
 use lib.Dec.{leb, ltb, eqb}
-use borrow.Author.Tests.{eq-eqb, ne-eqb, eqb-true, le-leb, le-ltb}
+use borrow.Author.Tests.{eq-eqb, ne-eqb, eqb-true, le-leb, ltb-true, le-ltb}
 use Rattle.words.specs.Range.{gather, bit, leader}
 use Rattle.words.specs.Reads.{at}
 use Rattle.words.specs.Lists.{linesAt, lines}
 use Rattle.words.specs.Groups.{share, name, table, size, beats, big, partsSmall, smalls, gap, Least}
-use Rattle.words.specs.Moves.{goes, movesOf, movesIn, moves, log, top}
-use Rattle.words.proofs.Tests.{either, same-test, or-left, or-right, and-both, lt-or-ge}
+use Rattle.words.specs.Moves.{goes, moveCount, movesOf, movesIn, moves, log, top}
+use Rattle.words.proofs.Tests.{either, same-test, or-left, or-right, and-left, and-right, and-both, lt-or-ge}
+use Rattle.words.proofs.Sums.{count-one}
 use Rattle.words.proofs.Ranges.{every-of, column-same, leader-agrees, gather-none, gather-stop}
 use Rattle.words.proofs.Groups.{Share, share-is, is-share, table-length, table-least, table-share, share-table}
 use Rattle.words.proofs.Small.{parts-small-at, smalls-next}
@@ -53,39 +54,67 @@ module _ (x : List ℕ) where
           off false = refl
       go (inr l) = rw (table-length x w, le-ltb i (length x) l)
 
-  -- so the groups stay as they are
-  quiet-table : (w : ℕ) → 1 ≤ w → Quiet w → table x (suc w) ≡ table x w
+  -- nothing moves at width w
+  abbrev pub Still : ℕ → Type 0
+  Still w = (i : ℕ) → 1 ≤ i → i ≤ length x → goes (table x w) (smalls x w) i ≡ 0
+
+  -- a width without moves
+  pub count-still : (w : ℕ) → moveCount (table x w) (smalls x w) ≡ 0 → Still w
+  unfolding moveCount
+  count-still w z i a b = goes-stays (table x w) (smalls x w) i (go (either (leaving (table x w) (smalls x w) i)))
+    where
+      go : (leaving (table x w) (smalls x w) i ≡ true) ⊎ (leaving (table x w) (smalls x w) i ≡ false) → leaving (table x w) (smalls x w) i ≡ false
+      go (inl e) =
+          let l : i < length (table x w) = ltb-true i (length (table x w)) (and-left (ltb i (length (table x w))) (eqb (at (smalls x w) (at (table x w) (suc i))) 1) e) in
+          absurd (omega (
+            arith,
+            z,
+            count-one (λ j. eqb (at (smalls x w) (at (table x w) j)) 1) (length (table x w) - 1) 2 (suc i) (omega arith) (omega arith)
+                (and-right (ltb i (length (table x w))) (eqb (at (smalls x w) (at (table x w) (suc i))) 1) e),
+          ))
+      go (inr e) = e
+
+  -- then the groups stay as they are
+  pub still-table : (w : ℕ) → 1 ≤ w → Still w → table x (suc w) ≡ table x w
   unfolding table name
-  quiet-table w h q = column-same (leader (share x (suc w))) (leader (share x w)) (length x) (λ i a b. leader-agrees (share x (suc w)) (share x w) i (λ j c d. same j i c (omega arith) a b))
+  still-table w h q = column-same (leader (share x (suc w))) (leader (share x w)) (length x) (λ i a b. leader-agrees (share x (suc w)) (share x w) i (λ j c d. same j i c (omega arith) a b))
     where
       same : (i j : ℕ) → 1 ≤ i → i ≤ length x → 1 ≤ j → j ≤ length x → share x (suc w) i j ≡ share x w i j
       same i j a b c d =
           same-test (share x (suc w) i j) (share x w i j)
           (λ t. is-share x w i j (share-split x w i j h a b c d .0 (share-is x (suc w) i j t) .0))
-          (λ t. is-share x (suc w) i j (share-split x w i j h a b c d .1 (share-is x w i j t, quiet-goes w i q a b ∙ sym (quiet-goes w j q c d))))
+          (λ t. is-share x (suc w) i j (share-split x w i j h a b c d .1 (share-is x w i j t, q i a b ∙ sym (q j c d))))
 
-  quiet-next : (w : ℕ) → 1 ≤ w → Quiet w → Quiet (suc w)
-  quiet-next w h q s a b e =
+  -- and none of them is small at the next width
+  pub still-quiet : (w : ℕ) → 1 ≤ w → Still w → Quiet (suc w)
+  still-quiet w h q s a b e =
       let t : List ℕ = table x w in
       let l : s ≤ length t = rw (table-length x w) b in
       let z : at (partsSmall t t) s ≡ 0 = parts-small-at t t s a l ∙ ap bit (go (either (eqb (at t s) s))) in
-      let f : smalls x (suc w) ≡ partsSmall t t = smalls-next x w h ∙ ap (partsSmall t) (quiet-table w h q) in
+      let f : smalls x (suc w) ≡ partsSmall t t = smalls-next x w h ∙ ap (partsSmall t) (still-table w h q) in
       omega (arith, e, ap (λ (v : List ℕ). at v s) f, z)
     where
       go : (eqb (at (table x w) s) s ≡ true) ⊎ (eqb (at (table x w) s) s ≡ false) → eqb (at (table x w) s) s && not (big (table x w) (table x w) s) ≡ false
       go (inl e) = rw (e, whole-big (table x w) (table-least x w) s (eqb-true (at (table x w) s) s e))
       go (inr e) = rw e
 
+  quiet-still : (w : ℕ) → Quiet w → Still w
+  quiet-still w q i a b = quiet-goes w i q a b
+
   quiet-on : (w k : ℕ) → 1 ≤ w → Quiet w → Quiet (k + w) × (table x (k + w) ≡ table x w)
   quiet-on w zero h q = (subst Quiet (omega arith) q, ap (table x) (omega arith))
   quiet-on w (suc k) h q =
       let r = quiet-on w k h q in
       let v : suc (k + w) ≡ suc k + w = omega arith in
-      (subst Quiet v (quiet-next (k + w) (omega arith) (r .0)), ap (table x) (sym v) ∙ quiet-table (k + w) (omega arith) (r .0) ∙ r .1)
+      (subst Quiet v (still-quiet (k + w) (omega arith) (quiet-still (k + w) (r .0))), ap (table x) (sym v) ∙ still-table (k + w) (omega arith) (quiet-still (k + w) (r .0)) ∙ r .1)
 
   -- no later width has a small group
   pub stop-small : (w v : ℕ) → 1 ≤ w → w ≤ v → Quiet w → Quiet v
   stop-small w v h l q = subst Quiet (omega arith) (quiet-on w (v - w) h q .0)
+
+  -- and the table stays as it is
+  pub stop-table : (w v : ℕ) → 1 ≤ w → w ≤ v → Quiet w → table x v ≡ table x w
+  stop-table w v h l q = ap (table x) (omega arith) ∙ quiet-on w (v - w) h q .1
 
   -- at width n and above only one stretch fits
   long-single : (w i : ℕ) → length x ≤ w → 1 ≤ i → i ≤ length x → at (table x w) i ≡ i

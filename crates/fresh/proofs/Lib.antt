@@ -1,0 +1,5 @@
+pub mod Letters
+pub mod Stores
+pub mod Neighbours
+pub mod Linking
+pub mod Counting

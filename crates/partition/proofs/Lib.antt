@@ -1,0 +1,4 @@
+pub mod Turn
+pub mod Steps
+pub mod Fresh
+pub mod OfRead

@@ -1,0 +1,6 @@
+pub mod Lefts
+pub mod Growing
+pub mod Walks
+pub mod Gives
+pub mod Passing
+pub mod Marks

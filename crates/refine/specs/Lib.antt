@@ -1,0 +1,3 @@
+pub mod Refine
+pub mod Links
+pub mod Phases

@@ -1,0 +1,4 @@
+pub mod Stores
+pub mod OneMove
+pub mod Codes
+pub mod Turns

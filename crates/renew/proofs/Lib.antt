@@ -1,0 +1,7 @@
+pub mod Views
+pub mod Tables
+pub mod Kept
+pub mod Sweeps
+pub mod Turning
+pub mod Naming
+pub mod Ends

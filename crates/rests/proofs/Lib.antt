@@ -1,0 +1,4 @@
+pub mod Stayers
+pub mod Walk
+pub mod Turns
+pub mod Arrays
