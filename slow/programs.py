@@ -1,7 +1,8 @@
 # What each program of crates/ is given on standard input, and what it must write.
 
 from reads import every
-from rules import moves, small, table
+from rules import (answer_claim, answer_group_table, answer_list, answer_log, answer_replay, claim,
+                   entries, flat, log, moves, small, table)
 
 def text(reads):
     return b"".join(x + b"\n" for x in reads)
@@ -14,6 +15,59 @@ def walk_widths(x):
             lines.append(" ".join(map(str, [w, word] + numbers)) + "\n")
     return "".join(lines).encode()
 
+def words(first, numbers):
+    return " ".join(map(str, [first] + numbers)) + "\n"
+
+def sevens(name, call, n):
+    # one call on a slice of sevens: the slice before, the answer, the slice after
+    before = [7] * n
+    number, value, after = call(before)
+    return name + "\n" + words("slice", before) + words("answer", [number, value]) + words("slice", after)
+
+def claimed(x, i, p, e):
+    number, value, _ = answer_claim(x, i, p, e)
+    motif = x[i - 1:i - 1 + p] if number == 0 and claim(x, i, p, e) else b""
+    return "claim\n" + words("answer", [number, int(value)]) + motif.decode() + "\n"
+
+def short_calls():
+    x, top32 = b"ACAACACA", 2 ** 32 - 1
+    own = flat(log(x))
+    twice = own[:5] + [2] + own[6:]
+    foreign = [1, 8, 1, 1, 8, 7, 3, 1, 1]
+    for read, mode, n in [(x, 0, 12), (x, 0, 11), (x, 1, 14), (x, 2, 11), (b"AAAA", 0, 9), (b"AAAA", 1, 9), (b"ACACACA", 1, 12), (b"", 0, 2)]:
+        yield sevens("list", lambda out: answer_list(read, mode, out), n)
+    for read, w, n in [(x, 8, 9), (x, 0, 9), (x, 9, 9), (x, top32, 2), (x, 3, 8), (x, 3, 7), (b"", 1, 2)]:
+        yield sevens("table", lambda out: answer_group_table(read, w, out), n)
+    for read, n in [(x, 85), (x, 83), (b"AAAA", 27), (b"ACGT", 28), (b"A", 2), (b"", 1)]:
+        yield sevens("log", lambda out: answer_log(read, out), n)
+    for read, l, w, n in [(x, own, 1, 9), (x, own, 3, 8), (x, own, 4, 8), (x, own, 5, 8), (x, own, 0, 8), (x, own[:32], 4, 8),
+                          (x, twice, 1, 8), (x, twice, 1, 7), (x, twice, 5, 7), (b"A" * 8, foreign, 3, 8), (b"A" * 8, foreign, 4, 8)]:
+        yield sevens("replay", lambda out: answer_replay(read, l, w, out), n)
+    y = b"ACACACAC"
+    for claim_of in [(y, 1, 2, 4), (y, 1, 4, 2), (y, 1, 2, 3), (y, 2, 2, 3), (y, 2, 2, 4), (y, top32, top32, top32), (b"AA", 1, 1, top32), (b"", 0, 0, 0)]:
+        yield claimed(*claim_of)
+    walked = [words("move", list(move)) for move in entries(own[:32])]
+    yield "".join(walked + ["ended\n"] * (12 - len(walked)))
+
+def long_calls():
+    x, over = b"A" * 1000, b"A" * 1001
+    calls = [answer_list(x, 0, [7] * 30000), answer_list(x, 1, [7] * 3), answer_list(over, 2, [7]),
+             answer_log(x, [7] * 29970), answer_log(x, [7] * 29969), answer_log(over, [7]),
+             answer_group_table(x, 1000, [7] * 1000), answer_group_table(over, 0, [7]),
+             answer_replay(over, [9], 0, [7]), answer_claim(over, 1, 1, 1001)]
+    for number, value, _ in calls:
+        yield words("answer", [number, int(value)])
+
+def byte_calls():
+    x = bytes(range(256))
+    yield sevens("list", lambda out: answer_list(x, 0, out), 3)
+    yield sevens("table", lambda out: answer_group_table(x, 1, out), 257)
+    yield sevens("log", lambda out: answer_log(x, out), 6885)
+
+def run_calls():
+    return "".join([*short_calls(), *long_calls(), *byte_calls()]).encode()
+
 def programs():
     short = [x for x in every() if len(x) <= 34]
-    return {"walk_widths": (text(short), b"".join(map(walk_widths, short)))}
+    return {"walk_widths": (text(short), b"".join(map(walk_widths, short))),
+            "run_calls": (b"", run_calls())}

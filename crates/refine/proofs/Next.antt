@@ -12,7 +12,6 @@ use Rattle.words.proofs.Tests.{and-left, and-right, and-both, eqb-self, eqb-tur
 use Rattle.words.proofs.Ranges.{length-column}
 use Rattle.words.proofs.Leaders.{Equivalence, leaders-least, leaders-test}
 use Rattle.words.specs.Groups.{Least}
-use Rattle.words.proofs.Small.{Refines}
 use Rattle.refine.specs.Refine.{leaves, together, nextOf}
 
 module _ (t Q : List ℕ) where
@@ -61,10 +60,3 @@ module _ (t Q : List ℕ) where
     same-next e l =
         eqb-true (at (nextOf t Q) i) (at (nextOf t Q) j)
         (next-test i j a b c d ∙ and-both (eqb (at t i) (at t j)) (eqb (leaves t Q i) (leaves t Q j)) (eq-eqb (at t i) (at t j) e) (eq-eqb (leaves t Q i) (leaves t Q j) l))
-
-  pub next-refines : Refines t (nextOf t Q)
-  next-refines =
-      record {
-        long = sym next-length;
-        splits = λ i j a b c d e. next-same i j a (rw next-length at b) c (rw next-length at d) e .0;
-      }

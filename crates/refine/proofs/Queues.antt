@@ -1,7 +1,7 @@
 -- Any queue: which positions are in it, and in which order. Assumes nothing.
 use Prim.Native.Nat.{ℕ, suc, _+_, _≤_, _<_}
 use mathlib.Core.Path.{_≡_, refl, sym, ap}
-use mathlib.Core.Logic.{_⊎_, inl, inr, ⊎-elim, _≢_}
+use mathlib.Core.Logic.{_⊎_, inl, inr, ⊎-elim}
 use mathlib.Core.Bool.{Bool, true, false, not}
 use mathlib.Core.List.{List}
 use native.Mathlib.Omega.{arith}
@@ -11,7 +11,7 @@ use lib.Dec.{eqb}
 use borrow.Author.Tests.{eqb-true, eq-eqb, not-true, not-false}
 use Rattle.words.specs.Range.{every}
 use Rattle.words.specs.Reads.{at}
-use Rattle.words.proofs.Tests.{either, clash, lt-or-ge}
+use Rattle.words.proofs.Tests.{clash, lt-or-ge}
 use Rattle.words.proofs.Ranges.{every-at, every-fails}
 use Rattle.refine.specs.Refine.{has, leaves, Lined}
 
@@ -32,10 +32,6 @@ module _ (Q : List ℕ) where
       go : (t : Bool) → every (λ r. not (eqb (at Q r) (at Q q))) (length Q) 1 ≡ t → not t ≡ true
       go true e = clash (eq-eqb (at Q q) (at Q q) refl) (not-true (eqb (at Q q) (at Q q)) (every-at (λ r. not (eqb (at Q r) (at Q q))) (length Q) 1 e q a (omega arith)))
       go false e = refl
-
-  -- a position that stands at no place is not in it
-  pub has-not : (i : ℕ) → ((q : ℕ) → 1 ≤ q → q ≤ length Q → at Q q ≢ i) → has Q i ≡ false
-  has-not i h = ⊎-elim (λ e. let r = has-is i e in absurd (h (r .0) (r .1) (r .2) (r .3))) (λ e. e) (either (has Q i))
 
   module _ (t : List ℕ) where
     pub leaves-moved : (i : ℕ) → has Q i ≡ true → leaves t Q i ≡ at t (suc i)

@@ -12,7 +12,7 @@ use Rattle.words.specs.Reads.{at, fits, alike}
 use Rattle.words.specs.Groups.{share, name, table, Least}
 use Rattle.words.proofs.Tests.{and-left, and-right, or-cases, or-right}
 use Rattle.words.proofs.Ranges.{length-column}
-use Rattle.words.proofs.Leaders.{Equivalence, leaders-at, leaders-least, leaders-test}
+use Rattle.words.proofs.Leaders.{Equivalence, leaders-least, leaders-test}
 use Rattle.words.proofs.Stretches.{Alike, alike-is, is-alike, alike-more, alike-less, alike-next}
 
 module _ (x : List ℕ) where
@@ -76,10 +76,6 @@ module _ (x : List ℕ) where
   pub table-length : (w : ℕ) → length (table x w) ≡ length x
   unfolding table
   table-length w = length-column (name x w) (length x)
-
-  pub table-at : (w i : ℕ) → 1 ≤ i → i ≤ length x → at (table x w) i ≡ name x w i
-  unfolding table name
-  table-at w i a b = leaders-at (share x w) (share-equivalence w) (length x) i a b
 
   pub table-least : (w : ℕ) → Least (table x w)
   unfolding table name

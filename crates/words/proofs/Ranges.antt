@@ -9,7 +9,7 @@ use native.Mathlib.Nat.{eq-or-lt-of-le, suc-add, zero-add, add-zero}
 use lib.ListN.{length, getD}
 use Rattle.words.specs.Range.{first, every, gather, cells, column, leader}
 use Rattle.words.specs.Reads.{at}
-use Rattle.words.proofs.Tests.{clash, same-test}
+use Rattle.words.proofs.Tests.{clash}
 
 module _ (p : ℕ → Bool) where
   first-hit : (d j : ℕ) → p j ≡ true → first p (suc d) j ≡ j
@@ -78,12 +78,6 @@ every-fails p (suc d) j e = go (p j) refl (λ t. every-fails p d (suc j) t)
     go : (b : Bool) → p j ≡ b → (every p d (suc j) ≡ false → (k : ℕ) × (suc j ≤ k) × (k < suc j + d) × (p k ≡ false)) → (k : ℕ) × (j ≤ k) × (k < j + suc d) × (p k ≡ false)
     go true q h = let w = h (sym (every-hit p d j q) ∙ e) in (w .0, omega (arith, w .1), omega (arith, w .2), w .3)
     go false q h = (j, omega arith, omega arith, q)
-
-pub every-same : (p q : ℕ → Bool) (d j : ℕ) → ((k : ℕ) → j ≤ k → k < j + d → p k ≡ q k) → every p d j ≡ every q d j
-every-same p q d j h =
-    same-test (every p d j) (every q d j)
-    (λ t. every-of q d j (λ k a b. sym (h k a b) ∙ every-at p d j t k a b))
-    (λ t. every-of p d j (λ k a b. h k a b ∙ every-at q d j t k a b))
 
 pub first-same : (p q : ℕ → Bool) (d j : ℕ) → ((k : ℕ) → j ≤ k → k < j + d → p k ≡ q k) → first p d j ≡ first q d j
 unfolding first

@@ -1,0 +1,3 @@
+pub mod Periods
+pub mod Listing
+pub mod Widths

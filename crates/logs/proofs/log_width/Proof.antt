@@ -1,0 +1,77 @@
+-- `logs::log_width` meets its contract: the queue is what the phases of a step read, and its moves are those of the width. Assumes nothing.
+use mathlib.Core.Path.{ap, _∙_}
+use native.Mathlib.Omega.{arith}
+use Rattle.slots.specs.Slots.{view}
+use Rattle.refine.proofs.Lengths.{queue-length}
+use Rattle.partition.proofs.Turn.{held-long, turn-ready, turn-ends}
+use Rattle.logs.specs.Written.{stored}
+use Rattle.logs.proofs.Stores.{stored-length, queue-inside, queue-moves-in}
+use borrow.Author.Needs.{needs}
+use Rattle.logs.proofs.log_width.Statement.{statement}
+use Rattle.logs.proofs.log_width.Tie as tie
+
+push-all-requires : tie.Need-push-all-requires
+push-all-requires c κs = search needs
+
+write-moves-requires : tie.Need-write-moves-requires
+write-moves-requires c κs =
+    let s = c .before .before .before .before .before .before .before .before .before .before in
+    let H = s .pre .0 in
+    let P = c .before .before .before .push-all .ensures in
+    let R = turn-ready _ _ _ _ _ _ _ _ _ _ H _ _ (P .0) (P .1) (P .2) in
+    let long = held-long _ _ _ _ _ _ _ _ _ _ H in (
+      omega (arith, R .queued, R .few),
+      queue-inside _ _ _ _ R _ (P .1) (P .2) long,
+      omega (arith, s .pre .2, P .2, queue-length _ (view (s .args .n) (s .args .small .now)) (H .least)),
+    )
+
+take-apart-requires : tie.Need-take-apart-requires
+take-apart-requires c κs =
+    let s = c .before .before .before .before .before .before .before .before .before .before .before .before .before .before .before .before .before .before .before .before .before .before .before .before .before in
+    let H = s .pre .0 in
+    let S = s .pre .1 in
+    let P = c .before .before .before .before .before .before .before .before .before .before .before .before .before .before .before .before .before .before .push-all .ensures in
+    (turn-ready _ _ _ _ _ _ _ _ _ _ H _ _ (P .0) (P .1) (P .2), S .part-clean, S .last-long, S .tail-clean, S .rest-long, H .sized, H .prev-long, H .links, H .lists)
+
+settle-requires : tie.Need-settle-requires
+settle-requires c κs =
+    let s = c .before .before .before .before .before .before .before .before .before .before .before .before .before .before .before .before .before .before .before .before .before .before .before .before .before .before .before .before .before .before .before .before .before .before .before .before in
+    let H = s .pre .0 in
+    let S = s .pre .1 in
+    let P = c .before .before .before .before .before .before .before .before .before .before .before .before .before .before .before .before .before .before .before .before .before .before .before .before .before .before .before .before .before .push-all .ensures in
+    let A = c .before .before .before .before .before .before .before .before .before .before .take-apart .ensures in (
+      turn-ready _ _ _ _ _ _ _ _ _ _ H _ _ (P .0) (P .1) (P .2),
+      P .3,
+      P .4,
+      A .0 .left,
+      A .0 .parts,
+      A .0 .tails,
+      S .best-long,
+      A .0 .rests,
+      record { long = A .2 .ld; next = A .0 .linked .links .next },
+    )
+
+same-length : tie.Need-same-length
+same-length c = stored-length _ _ _ _ (c .before .before .before .before .before .before .before .before .before .before .before .before .before .before .before .before .before .before .before .before .before .before .before .before .before .before .write-moves .ensures)
+
+returns : tie.Need-returns
+returns c =
+    let s = c .before .before .before .before .before .before .before .before .before .before .before .before .before .before .before .before .before .before .before .before .before .before .before .before .before .before .before .before .before .before .before .before .before .before .before .before .before in
+    let H = s .pre .0 in
+    let P = c .before .before .before .before .before .before .before .before .before .before .before .before .before .before .before .before .before .before .before .before .before .before .before .before .before .before .before .before .before .before .push-all .ensures in
+    let R = turn-ready _ _ _ _ _ _ _ _ _ _ H _ _ (P .0) (P .1) (P .2) in
+    let A = c .before .before .before .before .before .before .before .before .before .before .before .take-apart .ensures in (
+      turn-ends _ _ _ _ _ _ _ _ _ _ H _ _ (P .0) (P .1) (P .2) _ _ _ _ _ _ _ _ _ _ _ _ _ _ _ _ _ (A .0) (A .1) (A .2) (c .settle .ensures),
+      c .before .before .before .before .before .before .before .before .before .before .before .before .before .before .before .before .before .before .before .before .before .before .before .before .before .before .write-moves .ensures ∙ ap (stored (s .args .out .now) (s .args .from)) (queue-moves-in _ _ _ _ R _ (P .1) (P .2) (held-long _ _ _ _ _ _ _ _ _ _ H) (s .args .w)),
+    )
+
+pub log-width-spec : {M : Type 1} → statement M
+log-width-spec =
+    tie.close
+    (tie.spec
+    push-all-requires
+    write-moves-requires
+    take-apart-requires
+    settle-requires
+    same-length
+    returns)

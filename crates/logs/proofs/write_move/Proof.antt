@@ -1,0 +1,57 @@
+-- `logs::write_move` meets its contract: its three stores are the run of the move's numbers. Assumes nothing.
+use Prim.Native.Nat.{suc, _+_}
+use mathlib.Core.Path.{_≡_}
+use native.Mathlib.Omega.{arith}
+use native.Mathlib.Numerals.{add-one}
+use lib.ListN.{length-set}
+use Rattle.words.specs.Moves.{moveOf}
+use borrow.Author.Needs.{needs}
+use Rattle.logs.specs.Written.{stored}
+use Rattle.logs.proofs.write_move.Statement.{statement}
+use Rattle.logs.proofs.write_move.Tie as tie
+
+mul-out : tie.Need-mul-out
+mul-out c = search needs
+
+slice-write-out : tie.Need-slice-write-out
+slice-write-out c = search needs
+
+add-out : tie.Need-add-out
+add-out c = search needs
+
+mul-out-2 : tie.Need-mul-out-2
+mul-out-2 c = search needs
+
+slice-write-out-2 : tie.Need-slice-write-out-2
+slice-write-out-2 c = simp length-set (omega arith)
+
+add-out-2 : tie.Need-add-out-2
+add-out-2 c = search needs
+
+mul-out-3 : tie.Need-mul-out-3
+mul-out-3 c = search needs
+
+slice-write-out-3 : tie.Need-slice-write-out-3
+slice-write-out-3 c = simp length-set (omega arith)
+
+same-length : tie.Need-same-length
+same-length c = search needs
+
+returns : tie.Need-returns
+unfolding moveOf stored
+returns c = let e : c .args .from + 2 ≡ suc (suc (c .args .from)) = omega arith in rw (add-one (c .args .from), e)
+
+pub write-move-spec : {M : Type 1} → statement M
+write-move-spec =
+    tie.close
+    (tie.spec
+    mul-out
+    slice-write-out
+    add-out
+    mul-out-2
+    slice-write-out-2
+    add-out-2
+    mul-out-3
+    slice-write-out-3
+    same-length
+    returns)

@@ -1,0 +1,12 @@
+pub mod Zeros
+pub mod Order
+pub mod Judging
+pub mod Under
+pub mod Rule
+pub mod Orderly
+pub mod Marked
+pub mod Naming
+pub mod Turns
+pub mod Widths
+pub mod Written
+pub mod Said

@@ -1,0 +1,26 @@
+-- `replays::width_of` meets its contract: a whole entry ends inside the log. Assumes nothing.
+use mathlib.Core.Path.{refl}
+use native.Mathlib.Omega.{arith}
+use Rattle.words.specs.Rows.{rows}
+use Rattle.words.specs.Logs.{widthOf}
+use Rattle.replays.proofs.width_of.Statement.{statement}
+use Rattle.replays.proofs.width_of.Tie as tie
+
+mul-result : tie.Need-mul-result
+unfolding rows
+mul-result c = omega arith
+
+mul-result-2 : tie.Need-mul-result-2
+unfolding rows
+mul-result-2 c = omega arith
+
+shared-slice-read-result : tie.Need-shared-slice-read-result
+unfolding rows
+shared-slice-read-result c = omega arith
+
+returns : tie.Need-returns
+unfolding widthOf
+returns c = refl
+
+pub width-of-spec : {M : Type 1} → statement M
+width-of-spec = tie.close (tie.spec mul-result mul-result-2 shared-slice-read-result returns)

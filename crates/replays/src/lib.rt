@@ -1,0 +1,379 @@
+// The replay of a log that is handed in. `replay` refuses what document 01 says, in its order, and else writes the table of groups at the asked width
+// by the replay rule, for any read, log, width and slice. The whole log is judged first, in one pass that keeps the last width at which each position
+// moved. The groups start as those of width 1; at each width the log's entries of that width, which stand together, mark the positions that they
+// move, and the groups split by the marks: the unmarked positions get their names by position, then the marked ones in the log's order, so that the
+// first that is met of a part is its least. A width costs one pass over the positions and its entries, a width without entries costs nothing.
+ghost use mathlib.Core.Path.{_≡_};
+ghost use mathlib.Core.Bool.{true, not, _||_};
+ghost use mathlib.Core.List.{_++_};
+ghost use Prim.Native.Nat.{_+_, _≤_, _<_};
+ghost use lib.ListN.{length, drop};
+ghost use lib.Dec.{eqb};
+ghost use Rattle.words.specs.Rows.{rows};
+ghost use Rattle.words.specs.Reads.{at};
+ghost use Rattle.words.specs.Groups.{table};
+ghost use Rattle.words.specs.Moves.{topOf, moveSize};
+ghost use Rattle.words.specs.Replay.{after, replay};
+ghost use Rattle.words.specs.Logs.{widthOf, nameOf, placeOf, within, before, good, firstBad};
+ghost use Rattle.words.specs.Answers.{replayedSays};
+ghost use Rattle.words.specs.Calls.{replayAnswer, replayLeaves};
+ghost use Rattle.slots.specs.Slots.{put, view};
+ghost use Rattle.refine.specs.Phases.{Clean};
+ghost use Rattle.replays.specs.Judge.{inRange, follows, Seen};
+ghost use Rattle.replays.specs.Split.{Formed, Splits, isAt, Marks, Run, split, headOf, Nameable, Named, Turned, Mid, Stayed, Groups};
+use slots::load;
+use slots::store;
+use words::Replayed;
+
+// ---- the entries of a log, from 0
+
+fn width_of(log: &[u16], k: usize) -> u16
+    requires { ⌜ k < rows moveSize (now log) ⌝ }
+    ensures { λ r. ⌜ r ≡ widthOf (now (log .entry)) k ⌝ }
+{
+    log[3 * k]
+}
+
+fn name_of(log: &[u16], k: usize) -> u16
+    requires { ⌜ k < rows moveSize (now log) ⌝ }
+    ensures { λ r. ⌜ r ≡ nameOf (now (log .entry)) k ⌝ }
+{
+    log[3 * k + 1]
+}
+
+fn place_of(log: &[u16], k: usize) -> u16
+    requires { ⌜ k < rows moveSize (now log) ⌝ }
+    ensures { λ r. ⌜ r ≡ placeOf (now (log .entry)) k ⌝ }
+{
+    log[3 * k + 2]
+}
+
+// how many whole entries there are
+fn entries(log: &[u16]) -> usize
+    ensures { λ r. ⌜ r ≡ rows moveSize (now (log .entry)) ⌝ }
+{
+    log.len() / 3
+}
+
+// ---- is an entry good?
+
+fn between(a: u16, b: u16, v: u16) -> bool
+    ensures { λ r. ⌜ r ≡ within a b v ⌝ }
+{
+    if v < a {
+        return false;
+    }
+    v <= b
+}
+
+// are the width, the name and the position of entry k what they may be?
+fn in_range(log: &[u16], k: usize, n: u16, top: u16) -> bool
+    requires { ⌜ (k < rows moveSize (now log)) × (1 ≤ n) × (top ≡ topOf n) ⌝ }
+    ensures { λ r. ⌜ r ≡ inRange n (now (log .entry)) k ⌝ }
+{
+    if !between(1, top - 1, width_of(log, k)) {
+        return false;
+    }
+    if !between(1, n, name_of(log, k)) {
+        return false;
+    }
+    between(1, n - 1, place_of(log, k))
+}
+
+// does entry k come strictly after the one before?
+fn comes_after(log: &[u16], k: usize) -> bool
+    requires { ⌜ k < rows moveSize (now log) ⌝ }
+    ensures { λ r. ⌜ r ≡ follows (now (log .entry)) k ⌝ }
+{
+    if k == 0 {
+        return true;
+    }
+    ordered(log, k - 1, k)
+}
+
+fn ordered(log: &[u16], h: usize, k: usize) -> bool
+    requires { ⌜ (h < rows moveSize (now log)) × (k < rows moveSize (now log)) ⌝ }
+    ensures { λ r. ⌜ r ≡ before (now (log .entry)) h k ⌝ }
+{
+    let v = width_of(log, h);
+    let w = width_of(log, k);
+    if v != w {
+        return v < w;
+    }
+    let r = name_of(log, h);
+    let s = name_of(log, k);
+    if r != s {
+        return r < s;
+    }
+    place_of(log, h) < place_of(log, k)
+}
+
+// is entry k good, where all before it are? If so, its position is seen to have moved at its width
+fn judge(seen: &mut [u16; 1000], log: &[u16], k: usize, n: u16, top: u16) -> bool
+    requires { ⌜ (k < rows moveSize (now log)) × (1 ≤ n) × (n ≤ 1000) × (top ≡ topOf n) × Seen n (now log) k (now seen) ⌝ }
+    ensures { λ r. ⌜ (r ≡ good n (now (log .entry)) k) × (r ≡ true → Seen n (now (log .entry)) (k + 1) (now (seen .exit))) ⌝ }
+{
+    if !in_range(log, k, n, top) {
+        return false;
+    }
+    if !comes_after(log, k) {
+        return false;
+    }
+    let w = width_of(log, k);
+    let i = place_of(log, k);
+    if load(seen, i) == w {
+        return false;
+    }
+    store(seen, i, w);
+    true
+}
+
+// the index of the first bad entry, or the number of whole entries if none is bad
+fn first_bad(log: &[u16], n: u16, top: u16) -> usize
+    requires { ⌜ (1 ≤ n) × (n ≤ 1000) × (top ≡ topOf n) ⌝ }
+    ensures { λ r. ⌜ r ≡ firstBad n (now (log .entry)) ⌝ }
+{
+    let mut seen = [0u16; 1000];
+    let whole = entries(log);
+    let mut k: usize = 0;
+    while k < whole {
+        if !judge(&mut seen, log, k, n, top) {
+            return k;
+        }
+        k += 1;
+    }
+    k
+}
+
+// ---- the entries of one width
+
+// is there an entry q, and of width v?
+fn is_at(log: &[u16], q: usize, v: u16) -> bool
+    ensures { λ r. ⌜ r ≡ isAt (now (log .entry)) q v ⌝ }
+{
+    if q < entries(log) {
+        return width_of(log, q) == v;
+    }
+    false
+}
+
+// the position of entry q is marked with its name
+fn mark_one(mark: &mut [u16; 1000], log: &[u16], q: usize)
+    requires { ⌜ (q < rows moveSize (now log)) × (1 ≤ placeOf (now log) q) × (placeOf (now log) q ≤ 1000) ⌝ }
+    ensures { λ r. ⌜ now (mark .exit) ≡ put (now (mark .entry)) (placeOf (now (log .entry)) q) (nameOf (now (log .entry)) q) ⌝ }
+{
+    let i = place_of(log, q);
+    let s = name_of(log, q);
+    store(mark, i, s);
+}
+
+// the entries of width v, which stand together from `from` on, mark their positions; returns where they end; the contract speaks of n
+fn mark_run(mark: &mut [u16; 1000], log: &[u16], n: u16, from: usize, v: u16) -> usize
+    requires { ⌜ Clean (now mark) × Formed n (now log) × Splits (now log) v from ⌝ }
+    ensures { λ r. ⌜ Marks (now (log .entry)) v (now (mark .exit)) × Splits (now (log .entry)) (v + 1) r ⌝ }
+{
+    let mut q = from;
+    while is_at(log, q, v) {
+        mark_one(mark, log, q);
+        q += 1;
+    }
+    q
+}
+
+// ---- the groups split by the marks
+
+// the leader of the part of the group k that was met last, if its mark is that of i; else i
+fn head_of(lead: &[u16; 1000], mark: &[u16; 1000], k: u16, i: u16) -> u16
+    requires { ⌜ (1 ≤ k) × (k ≤ 1000) × (at (now lead) k ≤ 1000) × (1 ≤ i) × (i ≤ 1000) ⌝ }
+    ensures { λ r. ⌜ r ≡ headOf (now (lead .entry)) (now (mark .entry)) k i ⌝ }
+{
+    let f = load(lead, k);
+    if 0 < f {
+        if load(mark, f) == load(mark, i) {
+            return f;
+        }
+    }
+    i
+}
+
+// position i gets its new name
+fn name_one(
+    name: &mut [u16; 1000],
+    lead: &mut [u16; 1000],
+    old: &[u16; 1000],
+    mark: &[u16; 1000],
+    i: u16,
+)
+    requires { ⌜ Nameable (now old) (now lead) i ⌝ }
+    ensures { λ r. ⌜ Named (now (old .entry)) (now (mark .entry)) i (now (name .entry)) (now (lead .entry)) (now (name .exit)) (now (lead .exit)) ⌝ }
+{
+    let k = load(old, i);
+    let h = head_of(lead, mark, k, i);
+    store(lead, k, h);
+    store(name, i, h);
+}
+
+// .. if it is not marked
+fn name_unmarked(
+    name: &mut [u16; 1000],
+    lead: &mut [u16; 1000],
+    old: &[u16; 1000],
+    mark: &[u16; 1000],
+    i: u16,
+)
+    requires { ⌜ Nameable (now old) (now lead) i ⌝ }
+    ensures { λ r. ⌜ Turned (now (old .entry)) (now (mark .entry)) i (now (name .entry)) (now (lead .entry)) (now (name .exit)) (now (lead .exit)) ⌝ }
+{
+    if load(mark, i) == 0 {
+        name_one(name, lead, old, mark, i);
+    }
+}
+
+// the unmarked positions get their new names, in order
+fn name_stayers(
+    name: &mut [u16; 1000],
+    lead: &mut [u16; 1000],
+    old: &[u16; 1000],
+    mark: &[u16; 1000],
+    n: u16,
+)
+    requires { ⌜ Groups n (now old) × (length (now name) ≡ 1000) × Clean (now lead) ⌝ }
+    ensures { λ r. ⌜ Mid (view n (now (old .entry))) (now (mark .entry)) (Stayed (now (mark .entry)) n) (now (name .exit)) (now (lead .exit)) ⌝ }
+{
+    let mut i: u16 = 0;
+    while i < n {
+        i += 1;
+        name_unmarked(name, lead, old, mark, i);
+    }
+}
+
+// the marked positions get theirs, in the log's order; the contract speaks of n
+fn name_movers(
+    name: &mut [u16; 1000],
+    lead: &mut [u16; 1000],
+    old: &[u16; 1000],
+    mark: &[u16; 1000],
+    log: &[u16],
+    n: u16,
+    from: usize,
+    to: usize,
+)
+    requires { ⌜ Groups n (now old) × Run n (now log) (now mark) from to × Mid (view n (now old)) (now mark) (Stayed (now mark) n) (now name) (now lead) ⌝ }
+    ensures { λ r. ⌜ (length (now (name .exit)) ≡ 1000) × (view n (now (name .exit)) ≡ split (view n (now (old .entry))) (now (mark .entry))) ⌝ }
+{
+    let mut q = from;
+    while q < to {
+        let i = place_of(log, q);
+        name_one(name, lead, old, mark, i);
+        q += 1;
+    }
+}
+
+// the groups at width v + 1 from those at v; returns where the entries of width v end
+fn replay_width(name: &mut [u16; 1000], log: &[u16], n: u16, from: usize, v: u16) -> usize
+    requires { ⌜ Groups n (now name) × Formed n (now log) × Splits (now log) v from ⌝ }
+    ensures { λ r. ⌜ (length (now (name .exit)) ≡ 1000) × (view n (now (name .exit)) ≡ after (view n (now (name .entry))) (now (log .entry)) v) × Splits (now (log .entry)) (v + 1) r ⌝ }
+{
+    if !is_at(log, from, v) {
+        return from;
+    }
+    let old = *name;
+    let mut mark = [0u16; 1000];
+    let mut lead = [0u16; 1000];
+    let to = mark_run(&mut mark, log, n, from, v);
+    name_stayers(name, &mut lead, &old, &mark, n);
+    name_movers(name, &mut lead, &old, &mark, log, n, from, to);
+    to
+}
+
+// ---- the replay
+
+// the groups of width 1
+fn first_groups(name: &mut [u16; 1000], read: &[u8], n: u16)
+    requires { ⌜ (n ≤ 1000) × (length (now read) ≡ n) × (length (now name) ≡ 1000) ⌝ }
+    ensures { λ r. ⌜ (length (now (name .exit)) ≡ 1000) × (view n (now (name .exit)) ≡ table (now (read .entry)) 1) ⌝ }
+{
+    let mut prev = [0u16; 1000];
+    let mut dist = [0u16; 1000];
+    fresh::link_letters(name, &mut prev, &mut dist, read, n);
+}
+
+// the groups at a width, by the replay of a log whose entries are good
+fn replay_all(name: &mut [u16; 1000], read: &[u8], log: &[u16], n: u16, width: u16)
+    requires { ⌜ Formed n (now log) × (length (now read) ≡ n) × (length (now name) ≡ 1000) × (1 ≤ width) ⌝ }
+    ensures { λ r. ⌜ (length (now (name .exit)) ≡ 1000) × (view n (now (name .exit)) ≡ replay (now (read .entry)) (now (log .entry)) width) ⌝ }
+{
+    first_groups(name, read, n);
+    let mut k: usize = 0;
+    let mut v: u16 = 1;
+    while v < width {
+        k = replay_width(name, log, n, k, v);
+        v += 1;
+    }
+}
+
+// the first n names go to the front of `out`
+fn write_names(out: &mut [u16], name: &[u16; 1000], n: u16)
+    requires { ⌜ (n ≤ 1000) × (n ≤ length (now out)) × (length (now name) ≡ 1000) ⌝ }
+    ensures { λ r. ⌜ now (out .exit) ≡ view n (now (name .entry)) ++ drop n (now (out .entry)) ⌝ }
+{
+    let mut i: u16 = 0;
+    while i < n {
+        let at = slots::wide(i);
+        i += 1;
+        let s = load(name, i);
+        out[at] = s;
+    }
+}
+
+// ---- the call
+
+fn top_of(n: u16) -> u16
+    ensures { λ r. ⌜ r ≡ topOf n ⌝ }
+{
+    let h = n / 2;
+    if h < 1 {
+        return 1;
+    }
+    h
+}
+
+// is the width no width of the log's tables?
+fn bad_width(n: u16, width: u32) -> bool
+    ensures { λ r. ⌜ r ≡ eqb n 0 || not (within 1 (topOf n) width) ⌝ }
+{
+    if n == 0 {
+        return true;
+    }
+    if width < 1 {
+        return true;
+    }
+    let top = top_of(n) as u32;
+    top < width
+}
+
+// The table at a width, by the replay of a log that is handed in, to the front of `out`.
+pub fn replay(read: &[u8], log: &[u16], width: u32, out: &mut [u16]) -> Replayed
+    ensures { λ r. ⌜ (replayedSays r ≡ replayAnswer (now (read .entry)) (now (log .entry)) width (now (out .entry)))
+        × (now (out .exit) ≡ replayLeaves (now (read .entry)) (now (log .entry)) width (now (out .entry))) ⌝ }
+{
+    let long = read.len();
+    if 1000 < long {
+        return Replayed::TooLong(long);
+    }
+    let n = long as u16;
+    if bad_width(n, width) {
+        return Replayed::BadWidth(width);
+    }
+    if out.len() < long {
+        return Replayed::NoRoom(long);
+    }
+    let k = first_bad(log, n, top_of(n));
+    if 3 * k != log.len() {
+        return Replayed::BadEntry(k);
+    }
+    let mut name = [0u16; 1000];
+    replay_all(&mut name, read, log, n, width as u16);
+    write_names(out, &name, n);
+    Replayed::Names(long)
+}

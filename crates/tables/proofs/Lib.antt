@@ -1,0 +1,4 @@
+pub mod Stays
+pub mod Reached
+pub mod Copied
+pub mod Said
