@@ -2,10 +2,14 @@
 -- motif is shown, and no two answers say the same. Assumes nothing.
 use Prim.Native.Nat.{ℕ, _≤_, _<_}
 use mathlib.Core.Path.{_≡_, refl, sym, ap, _∙_}
+use mathlib.Core.Logic.{⊎-elim}
 use mathlib.Core.Bool.{Bool, true, false, _&&_, not, cond}
-use mathlib.Core.List.{List}
+use mathlib.Core.List.{List, [], _∷_}
+use native.Mathlib.Omega.{arith}
 use lib.ListN.{length, getD}
 use lib.Dec.{eqb}
+use types.Run.{OneOf}
+use denote.Enum.Declared.{tagOf}
 use borrow.Author.Tests.{lt-ltb, le-ltb}
 use Rattle.words.specs.Range.{bit}
 use Rattle.words.specs.Reads.{most}
@@ -13,6 +17,7 @@ use Rattle.words.specs.Repeats.{repeats}
 use Rattle.words.specs.Answers.{Answer, success, refusal, claimedSays}
 use Rattle.words.specs.Calls.{refuse, tooLong, claimAnswer, shown}
 use Rattle.words.specs.declared.Claimed.{Claimed}
+use Rattle.words.proofs.Claimed.{the-type}
 
 -- an answer read back
 answered : Answer → Claimed
@@ -32,6 +37,12 @@ abbrev pub isYes : Claimed → Bool
 isYes Claimed.Yes = true
 isYes Claimed.No = false
 isYes (Claimed.TooLong n) = false
+
+-- the tags of the other answers
+pub other-tag-not-yes : (a : Claimed) → OneOf (1 ∷ 2 ∷ []) (tagOf the-type a) → isYes a ≡ false
+other-tag-not-yes Claimed.Yes k = absurd (⊎-elim (λ h. omega (arith, h)) (λ h. omega (arith, h)) k)
+other-tag-not-yes Claimed.No k = refl
+other-tag-not-yes (Claimed.TooLong n) k = refl
 
 module _ (x : List ℕ) (i p e : ℕ) where
   pub long-said : most < length x → claimedSays (Claimed.TooLong (length x)) ≡ claimAnswer x i p e

@@ -1,27 +1,15 @@
 -- `claims::motif` meets its contract: after a yes the part that it takes is the motif, and after any other answer none is shown.
 -- Assumes nothing.
 use mathlib.Core.Path.{_≡_, refl, sym, ap, _∙_}
-use mathlib.Core.Logic.{⊎-elim}
 use mathlib.Core.Bool.{true, false}
-use mathlib.Core.List.{[], _∷_}
 use native.Mathlib.Omega.{arith}
 use borrow.Author.Needs.{needs}
-use types.Run.{OneOf}
-use denote.Enum.Declared.{tagOf}
 use denote.Ref.{now}
 use Rattle.words.specs.Calls.{shown}
-use Rattle.words.specs.declared.Claimed.{Claimed}
-use Rattle.words.proofs.Claimed.{the-type}
-use Rattle.claims.proofs.Said.{isYes, yes-shown}
+use Rattle.claims.proofs.Said.{isYes, other-tag-not-yes, yes-shown}
 use Rattle.claims.proofs.Motifs.{shown-inside, shown-bytes, shown-from, hidden-bytes, hidden-from}
 use Rattle.claims.proofs.motif.Statement.{statement}
 use Rattle.claims.proofs.motif.Tie as tie
-
--- the tags of the other answers
-other-tag-not-yes : (a : Claimed) → OneOf (1 ∷ 2 ∷ []) (tagOf the-type a) → isYes a ≡ false
-other-tag-not-yes Claimed.Yes k = absurd (⊎-elim (λ h. omega (arith, h)) (λ h. omega (arith, h)) k)
-other-tag-not-yes Claimed.No k = refl
-other-tag-not-yes (Claimed.TooLong n) k = refl
 
 claim-shown : (c : tie.After-enum-told) → let a = c .before .before .before .before .args in shown (now (a .read)) (a .start) (a .period) (a .copies) ≡ true
 claim-shown c = sym (yes-shown _ _ _ _ _ (c .before .before .claim .ensures)) ∙ ap isYes (c .enum-told .given .1)

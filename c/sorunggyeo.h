@@ -1,0 +1,82 @@
+/* Sorunggyeo for C: the public calls of document 01, proved (crates/sorunggyeo). docs/C.md is the guide.
+
+   Positions in a read count from 1; places of lines, entries and bytes count from 0. A read is any bytes. A call answers every input, checks
+   its refusals in the order of their numbers, and touches nothing but the slice that it writes. It holds nothing from call to call, so any
+   number of threads may call. A pointer with a count of 0 is never read or written, but must not be null. */
+#ifndef SORUNGGYEO_H
+#define SORUNGGYEO_H
+
+#include <stddef.h>
+#include <stdint.h>
+
+#ifdef __cplusplus
+extern "C" {
+#endif
+
+enum {
+    SORUNGGYEO_MOST = 1000,       /* the most bytes that a read may have */
+    SORUNGGYEO_LINE = 3,          /* a line of a list: start, period, copies */
+    SORUNGGYEO_MOVE = 3,          /* a move of a log: width, name, position */
+    SORUNGGYEO_LOG_MOST = 29970   /* room that does for the log of any read: 3·M(1000) */
+};
+
+enum {
+    SORUNGGYEO_OK = 0,
+    SORUNGGYEO_TOO_LONG = 1,      /* the read has more than 1,000 bytes; the value is its length; nothing is changed */
+    SORUNGGYEO_BAD_NUMBER = 2,    /* the mode or width is none; the value is that number; nothing is changed */
+    SORUNGGYEO_NO_ROOM = 3,       /* the list has room for fewer lines than there are; the value is the lines; the whole list is 0 */
+    SORUNGGYEO_TOO_SHORT = 4,     /* the log or table is too short; the value is the numbers needed; nothing is changed */
+    SORUNGGYEO_BAD_ENTRY = 5      /* the log is ill-formed; the value is the index of its first bad entry; nothing is changed */
+};
+
+/* 0 for success or the number of a refusal, and what is returned with it */
+typedef struct {
+    uint32_t number;
+    uint64_t value;
+} sorunggyeo_answer;
+
+/* a part of a read: `count` bytes from read + from on */
+typedef struct {
+    size_t from;
+    size_t count;
+} sorunggyeo_part;
+
+/* an entry of a log where found is 1, all 0 where it is 0; `at` is the place to go on from */
+typedef struct {
+    size_t at;
+    uint16_t found;
+    uint16_t width;
+    uint16_t name;
+    uint16_t position;
+} sorunggyeo_move;
+
+/* The list of the read's repeats to the front of `list`, all (mode 0) or only the leading ones (mode 1), by period, then start. The value
+   is the number of lines. Refuses by 1, 2, 3. */
+sorunggyeo_answer sorunggyeo_list(const uint8_t *read, size_t n, uint32_t mode, uint16_t *list, size_t room);
+
+/* The name of each position's group at a width of 1 to n, its least position, to the front of `table`. The value is n. Refuses by 1, 2, 4. */
+sorunggyeo_answer sorunggyeo_group_table(const uint8_t *read, size_t n, uint32_t width, uint16_t *table, size_t room);
+
+/* All moves of the read, by width, then name, then position, to the front of `log`, which has room for 3·M(n) numbers. The value is the
+   number of moves. Refuses by 1, 4. */
+sorunggyeo_answer sorunggyeo_log(const uint8_t *read, size_t n, uint16_t *log, size_t room);
+
+/* The groups at a width of 1 to top, by the width 1 groups of the read and the moves of the log alone, to the front of `table`. The value is
+   n. The log need not be the read's own, and the whole log is judged. Refuses by 1, 2, 4, 5. */
+sorunggyeo_answer sorunggyeo_replay(const uint8_t *read, size_t n, const uint16_t *log, size_t numbers, uint32_t width,
+                                    uint16_t *table, size_t room);
+
+/* Is (start, period, copies) a repeat of the read? The value is 1 for yes and 0 for no. Refuses by 1. */
+sorunggyeo_answer sorunggyeo_claim(const uint8_t *read, size_t n, uint32_t start, uint32_t period, uint32_t copies);
+
+/* The motif of a true claim as that part of the read; the empty part at the read's front for any other claim, or a read over the limit. */
+sorunggyeo_part sorunggyeo_motif(const uint8_t *read, size_t n, uint32_t start, uint32_t period, uint32_t copies);
+
+/* The next whole entry of a log as it stands, and the place one further; or that the log has ended, and the place kept. */
+sorunggyeo_move sorunggyeo_next(const uint16_t *log, size_t numbers, size_t at);
+
+#ifdef __cplusplus
+}
+#endif
+
+#endif

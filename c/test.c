@@ -1,0 +1,233 @@
+/* Runs the calls from C and prints what the slow program prints, for c/check to compare:
+     test lists|leading|logs < READS           every read's list, leading repeats, or log
+     test tables TABLES < READS                every read's tables at the widths that the file TABLES has
+     test calls                                what crates/run_calls prints
+   Besides, in `lists` each line is claimed and its motif taken, in `logs` the log is walked by the reader, and in `tables` the replay of the
+   read's own log must give the same table; what fails prints a line that no stored output has. */
+#include "sorunggyeo.h"
+#include <stdio.h>
+#include <stdlib.h>
+#include <string.h>
+
+enum { LINES = 10000, WIDE = 70000 };
+static uint8_t read[WIDE];
+static uint16_t list[LINES * SORUNGGYEO_LINE], log_[SORUNGGYEO_LOG_MOST], table[SORUNGGYEO_MOST], other[SORUNGGYEO_MOST];
+
+static void expect(int ok, const char *what)
+{
+    if (!ok) printf("wrong: %s\n", what);
+}
+
+/* the next line of standard input without its newline; 0 once there is none */
+static int next_read(size_t *n)
+{
+    int c = getchar();
+    if (c == EOF) return 0;
+    for (*n = 0; c != EOF && c != '\n'; c = getchar())
+        if (*n < WIDE) read[(*n)++] = c;
+    return 1;
+}
+
+static void numbers(const uint16_t *a, size_t n)
+{
+    for (size_t i = 0; i < n; i++) printf(" %u", a[i]);
+    printf("\n");
+}
+
+/* ---- every read against the stored results */
+
+static void claim_line(size_t n, uint32_t i, uint32_t p, uint32_t e)
+{
+    sorunggyeo_part u = sorunggyeo_motif(read, n, i, p, e);
+    expect(sorunggyeo_claim(read, n, i, p, e).value == 1, "a line of the list is a true claim");
+    expect(sorunggyeo_claim(read, n, i, p, e + 1).value == 0, "with a copy more it is not");
+    expect(u.from == i - 1 && u.count == p, "its motif is that part of the read");
+}
+
+static void print_list(size_t n, uint32_t mode)
+{
+    sorunggyeo_answer a = sorunggyeo_list(read, n, mode, list, LINES * SORUNGGYEO_LINE);
+    if (a.number != SORUNGGYEO_OK) {
+        printf("refused %u %llu\n", a.number, (unsigned long long)a.value);
+        return;
+    }
+    printf("read %zu repeats %llu\n", n, (unsigned long long)a.value);
+    for (size_t k = 0; k < a.value; k++) {
+        const uint16_t *line = list + SORUNGGYEO_LINE * k;
+        printf("%u %u %u\n", line[0], line[1], line[2]);
+        claim_line(n, line[0], line[1], line[2]);
+    }
+}
+
+/* one line for the moves of a width under a name */
+static void print_log(size_t n)
+{
+    size_t needed = sorunggyeo_log(read, n, log_, 0).value;
+    sorunggyeo_answer a = sorunggyeo_log(read, n, log_, SORUNGGYEO_LOG_MOST);
+    unsigned width = 0, name = 0;
+    size_t at = 0;
+    if (n < 2) needed = 0;
+    printf("read %zu moves %llu room %zu", n, (unsigned long long)a.value, needed / SORUNGGYEO_MOVE);
+    for (sorunggyeo_move m; (m = sorunggyeo_next(log_, SORUNGGYEO_MOVE * a.value, at)).found; at = m.at) {
+        if (m.width != width || m.name != name) printf("\n%u %u:", m.width, m.name);
+        printf(" %u", m.position);
+        width = m.width;
+        name = m.name;
+    }
+    printf("\n");
+    expect(at == a.value, "the reader gives every move");
+}
+
+static void print_table(size_t n, unsigned width)
+{
+    sorunggyeo_answer a = sorunggyeo_group_table(read, n, width, table, SORUNGGYEO_MOST);
+    printf("%u:", width);
+    numbers(table, a.value);
+    if (width > 1 && width > n / 2) return;
+    a = sorunggyeo_log(read, n, log_, SORUNGGYEO_LOG_MOST);
+    a = sorunggyeo_replay(read, n, log_, SORUNGGYEO_MOVE * a.value, width, other, SORUNGGYEO_MOST);
+    expect(a.number == SORUNGGYEO_OK && !memcmp(table, other, n * sizeof *table), "the replay gives the table");
+}
+
+static void print_tables(FILE *stored)
+{
+    size_t n = 0;
+    unsigned width;
+    for (int c; (c = getc(stored)) != EOF;) {
+        ungetc(c, stored);
+        if (c == 'r') {
+            if (!next_read(&n)) return;
+            printf("read %zu\n", n);
+        } else if (fscanf(stored, "%u", &width) == 1) {
+            print_table(n, width);
+        }
+        while ((c = getc(stored)) != '\n' && c != EOF) {}
+    }
+}
+
+/* ---- the calls of crates/run_calls: each on a slice of sevens, with the slice before and after */
+
+static uint16_t slice[LINES * SORUNGGYEO_LINE];
+
+static void begin(const char *call, size_t n)
+{
+    printf("%s\nslice", call);
+    for (size_t i = 0; i < n; i++) slice[i] = 7;
+    numbers(slice, n);
+}
+
+static void answered(sorunggyeo_answer a)
+{
+    printf("answer %u %llu\n", a.number, (unsigned long long)a.value);
+}
+
+static void end(sorunggyeo_answer a, size_t n)
+{
+    answered(a);
+    printf("slice");
+    numbers(slice, n);
+}
+
+static void list_on(const char *x, size_t n, uint32_t mode, size_t room)
+{
+    begin("list", room);
+    end(sorunggyeo_list((const uint8_t *)x, n, mode, slice, room), room);
+}
+
+static void table_on(const char *x, size_t n, uint32_t width, size_t room)
+{
+    begin("table", room);
+    end(sorunggyeo_group_table((const uint8_t *)x, n, width, slice, room), room);
+}
+
+static void log_on(const char *x, size_t n, size_t room)
+{
+    begin("log", room);
+    end(sorunggyeo_log((const uint8_t *)x, n, slice, room), room);
+}
+
+static void replay_on(const char *x, const uint16_t *l, size_t count, uint32_t width, size_t room)
+{
+    begin("replay", room);
+    end(sorunggyeo_replay((const uint8_t *)x, strlen(x), l, count, width, slice, room), room);
+}
+
+static void claim_on(const char *x, uint32_t i, uint32_t p, uint32_t e)
+{
+    printf("claim\n");
+    answered(sorunggyeo_claim((const uint8_t *)x, strlen(x), i, p, e));
+    sorunggyeo_part u = sorunggyeo_motif((const uint8_t *)x, strlen(x), i, p, e);
+    printf("%.*s\n", (int)u.count, x + u.from);
+}
+
+static void short_calls(void)
+{
+    const char *x = "ACAACACA", *y = "ACACACAC";
+    uint16_t own[33] = {1, 1, 2, 1, 1, 3, 1, 1, 5, 1, 1, 7, 1, 2, 1, 1, 2, 4, 1, 2, 6, 2, 3, 2, 2, 8, 7, 3, 5, 4, 3, 7, 6};
+    uint16_t foreign[9] = {1, 8, 1, 1, 8, 7, 3, 1, 1};
+    list_on(x, 8, 0, 12), list_on(x, 8, 0, 11), list_on(x, 8, 1, 14), list_on(x, 8, 2, 11);
+    list_on("AAAA", 4, 0, 9), list_on("AAAA", 4, 1, 9), list_on("ACACACA", 7, 1, 12), list_on("", 0, 0, 2);
+    table_on(x, 8, 8, 9), table_on(x, 8, 0, 9), table_on(x, 8, 9, 9), table_on(x, 8, UINT32_MAX, 2);
+    table_on(x, 8, 3, 8), table_on(x, 8, 3, 7), table_on("", 0, 1, 2);
+    log_on(x, 8, 85), log_on(x, 8, 83), log_on("AAAA", 4, 27), log_on("ACGT", 4, 28), log_on("A", 1, 2), log_on("", 0, 1);
+    replay_on(x, own, 33, 1, 9), replay_on(x, own, 33, 3, 8), replay_on(x, own, 33, 4, 8), replay_on(x, own, 33, 5, 8);
+    replay_on(x, own, 33, 0, 8), replay_on(x, own, 32, 4, 8);
+    own[5] = 2;
+    replay_on(x, own, 33, 1, 8), replay_on(x, own, 33, 1, 7), replay_on(x, own, 33, 5, 7);
+    own[5] = 3;
+    replay_on("AAAAAAAA", foreign, 9, 3, 8), replay_on("AAAAAAAA", foreign, 9, 4, 8);
+    claim_on(y, 1, 2, 4), claim_on(y, 1, 4, 2), claim_on(y, 1, 2, 3), claim_on(y, 2, 2, 3), claim_on(y, 2, 2, 4);
+    claim_on(y, UINT32_MAX, UINT32_MAX, UINT32_MAX), claim_on("AA", 1, 1, UINT32_MAX), claim_on("", 0, 0, 0);
+    size_t at = 0;
+    for (int call = 0; call < 12; call++) {
+        sorunggyeo_move m = sorunggyeo_next(own, 32, at);
+        if (m.found) printf("move %u %u %u\n", m.width, m.name, m.position);
+        else printf("ended\n");
+        at = m.at;
+    }
+}
+
+static void long_calls(void)
+{
+    uint16_t nine = 9;
+    memset(read, 'A', WIDE);
+    answered(sorunggyeo_list(read, 1000, 0, slice, 30000));
+    answered(sorunggyeo_list(read, 1000, 1, slice, 3));
+    answered(sorunggyeo_list(read, 1001, 2, slice, 1));
+    answered(sorunggyeo_log(read, 1000, slice, 29970));
+    answered(sorunggyeo_log(read, 1000, slice, 29969));
+    answered(sorunggyeo_log(read, 1001, slice, 1));
+    answered(sorunggyeo_group_table(read, 1000, 1000, slice, 1000));
+    answered(sorunggyeo_group_table(read, 1001, 0, slice, 1));
+    answered(sorunggyeo_replay(read, 1001, &nine, 1, 0, slice, 1));
+    answered(sorunggyeo_claim(read, 1001, 1, 1, 1001));
+}
+
+static void byte_calls(void)
+{
+    char all[256];
+    for (int b = 0; b < 256; b++) all[b] = (char)b;
+    list_on(all, 256, 0, 3), table_on(all, 256, 1, 257), log_on(all, 256, 6885);
+}
+
+int main(int argc, char **argv)
+{
+    const char *what = argc > 1 ? argv[1] : "";
+    size_t n;
+    if (!strcmp(what, "lists")) {
+        while (next_read(&n)) print_list(n, 0);
+    } else if (!strcmp(what, "leading")) {
+        while (next_read(&n)) print_list(n, 1);
+    } else if (!strcmp(what, "logs")) {
+        while (next_read(&n)) print_log(n);
+    } else if (!strcmp(what, "tables") && argc > 2) {
+        FILE *stored = fopen(argv[2], "r");
+        if (!stored) return 1;
+        print_tables(stored);
+    } else if (!strcmp(what, "calls")) {
+        short_calls(), long_calls(), byte_calls();
+    } else {
+        return 1;
+    }
+    return 0;
+}

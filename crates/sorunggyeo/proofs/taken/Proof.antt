@@ -1,0 +1,22 @@
+-- `sorunggyeo::taken` meets its contract, case by case. Assumes nothing.
+use Rattle.sorunggyeo.specs.Plain.{entryMove, plainMove}
+use borrow.Author.Needs.{needs}
+use Rattle.sorunggyeo.proofs.taken.Statement.{statement}
+use Rattle.sorunggyeo.proofs.taken.Tie as tie
+
+enum-known-e : tie.Need-enum-known-e
+enum-known-e c = search needs
+
+enum-told : tie.Need-enum-told
+enum-told c = search needs
+
+returns : tie.Need-returns
+unfolding plainMove entryMove
+returns c = cc
+
+returns-2 : tie.Need-returns-2
+unfolding plainMove entryMove
+returns-2 c = cc
+
+pub taken-spec : {M : Type 1} → statement M
+taken-spec = tie.close (tie.spec enum-known-e enum-told returns returns-2)
