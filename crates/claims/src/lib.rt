@@ -10,10 +10,8 @@ ghost use Rattle.words.specs.Repeats.{stands, primitive, repeats};
 ghost use Rattle.words.specs.Answers.{claimedSays};
 ghost use Rattle.words.specs.Calls.{claimAnswer, motif as motifBytes, motifFrom};
 ghost use Rattle.claims.specs.Claims.{Inside, Sized, cuts};
+use edges::MOST;
 use words::Claimed;
-
-// the most bytes that a read may have
-const MOST: usize = 1000;
 
 // are the w bytes from position i those d further?
 fn same_run(read: &[u8], i: usize, w: usize, d: usize) -> bool

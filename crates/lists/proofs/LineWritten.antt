@@ -1,9 +1,10 @@
 -- The layout of a line as the code writes it. Only this file opens `lineOf` and `lineSize`. Assumes nothing.
-use Prim.Native.Nat.{ℕ, suc, _+_, _*_, _/_, _≤_, _<_}
+use Prim.Native.Nat.{ℕ, _+_, _*_, _/_, _≤_, _<_}
 use mathlib.Core.Path.{_≡_, refl, _∙_}
-use mathlib.Core.List.{List, _++_}
+use mathlib.Core.List.{List, [], _∷_, _++_}
 use native.Mathlib.Omega.{arith}
-use lib.ListN.{length, set, drop, length-append, length-set}
+use lib.ListN.{length, drop, length-append}
+use lib.Seq.{sets, length-sets}
 use Rattle.words.specs.Rows.{rows}
 use Rattle.words.specs.Lists.{lineOf, lineSize}
 use Rattle.lists.specs.Listing.{Adds}
@@ -14,21 +15,19 @@ unfolding rows lineSize
 room-rows out = refl
 
 module _ (out : List ℕ) (k i p e : ℕ) where
-  pub line-added : Adds k (k + 1) (lineOf i p e) out (set (set (set out (3 * k) i) (3 * k + 1) p) (3 * k + 2) e)
+  pub line-added : Adds k (k + 1) (lineOf i p e) out (sets out (3 * k) (i ∷ p ∷ e ∷ []))
   unfolding lineOf lineSize
   line-added old l L =
       let m : List ℕ = lineOf i p e in
       let n : length (l ++ m) ≡ 3 * (k + 1) = length-append l m ∙ omega (arith, L .count) in
       record {
-        same = simp length-set (L .same);
+        same = length-sets out (3 * k) m ∙ L .same;
         count = n;
         front =
             λ h.
             let f : out ≡ l ++ drop (length l) old = L .front (omega (arith, h, n, L .count)) in
             let q : 3 * k ≡ length l = omega (arith, L .count) in
-            let s : length l + 1 ≡ suc (length l) = omega arith in
-            let t : length l + 2 ≡ suc (suc (length l)) = omega arith in
-            rw (q, s, t, f) (front-more old l m h);
+            rw (q, f) (front-more old l m h);
       }
 
   pub line-lost : length out < 3 * k + 3 → Adds k (k + 1) (lineOf i p e) out out

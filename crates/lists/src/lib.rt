@@ -10,7 +10,6 @@ ghost use lib.Dec.{eqb};
 ghost use Rattle.words.specs.Rows.{rows};
 ghost use Rattle.words.specs.Reads.{at};
 ghost use Rattle.words.specs.Lists.{lineOf, lineSize, lines};
-ghost use Rattle.words.specs.Moves.{topOf};
 ghost use Rattle.words.specs.Answers.{listedSays};
 ghost use Rattle.words.specs.Calls.{listAnswer, listLeaves};
 ghost use Rattle.distances.specs.Lists.{Lists};
@@ -19,14 +18,13 @@ ghost use Rattle.partition.specs.Held.{Held, Scratch, Stands};
 ghost use Rattle.lists.specs.Periods.{run, leadsIn, lineIn, linesIn, Near, Follows, Counted};
 ghost use Rattle.lists.specs.Listing.{many, Listing, Adds};
 use distances::span_of;
+use edges::put_row;
+use edges::top_of;
 use partition::Partition;
 use partition::advance;
 use slots::load;
 use slots::store;
 use words::Listed;
-
-// the most bytes that a read may have
-const MOST: usize = 1000;
 
 // ---- the layout of a line
 
@@ -47,9 +45,7 @@ fn put_line(out: &mut [u16], k: usize, i: u16, p: u16, e: u16)
 {
     let from = LINE * k;
     if from + LINE <= out.len() {
-        out[from] = i;
-        out[from + 1] = p;
-        out[from + 2] = e;
+        put_row(out, from, i, p, e);
     }
 }
 
@@ -169,17 +165,6 @@ fn lines_at(
 }
 
 // ---- all periods
-
-// the last period that a read of n bytes can have, or 1
-fn top_of(n: u16) -> u16
-    ensures { λ r. ⌜ r ≡ topOf n ⌝ }
-{
-    let h = n / 2;
-    if h < 1 {
-        return 1;
-    }
-    h
-}
 
 // the lines of every period, from the arrays at width 1 on; returns the number of lines
 fn all_lines(
@@ -302,7 +287,7 @@ pub fn list(read: &[u8], mode: u32, out: &mut [u16]) -> Listed
         × (now (out .exit) ≡ listLeaves (now (read .entry)) mode (now (out .entry))) ⌝ }
 {
     let long = read.len();
-    if MOST < long {
+    if Partition::MOST < long {
         return Listed::TooLong(long);
     }
     if 1 < mode {

@@ -5,7 +5,7 @@ use mathlib.Core.Path.{_≡_, refl, sym, ap, _∙_}
 use mathlib.Core.List.{List, [], _∷_, _++_}
 use native.Mathlib.Omega.{arith}
 use lib.ListN.{length, drop, set}
-use lib.Seq.{sets-eq, length-sets}
+use lib.Seq.{sets, sets-eq, length-sets}
 use Rattle.words.specs.Range.{gather}
 use Rattle.words.specs.Reads.{at}
 use Rattle.words.specs.Moves.{moveOf, moveSize, movesIn}
@@ -22,6 +22,11 @@ pub stored-append : (l u v : List ℕ) (i : ℕ) → stored l i (u ++ v) ≡ sto
 unfolding stored
 stored-append l [] v i = ap (λ (k : ℕ). stored l k v) (omega arith)
 stored-append l (a ∷ u) v i = stored-append (set l i a) u v (suc i) ∙ ap (λ (k : ℕ). stored (stored (set l i a) (suc i) u) k v) (omega arith)
+
+-- a row that is put is a move that is stored
+pub move-stored : (l new : List ℕ) (k w s j : ℕ) → new ≡ sets l k (w ∷ s ∷ j ∷ []) → new ≡ stored l k (moveOf w s j)
+unfolding stored moveOf
+move-stored l new k w s j e = e
 
 pub stored-length : (l v : List ℕ) (i : ℕ) (r : List ℕ) → r ≡ stored l i v → length r ≡ length l
 unfolding stored

@@ -6,12 +6,13 @@ ghost use mathlib.Core.Path.{_≡_};
 ghost use mathlib.Core.List.{List};
 ghost use Prim.Native.Nat.{ℕ, _+_, _*_, _≤_};
 ghost use lib.ListN.{length};
-ghost use Rattle.words.specs.Moves.{moveOf, moveSize, moveCount, movesIn, log2, M};
+ghost use Rattle.words.specs.Moves.{moveSize, moveCount, movesIn, log2, M};
 ghost use Rattle.words.specs.Answers.{loggedSays};
 ghost use Rattle.words.specs.Calls.{logAnswer, logLeaves};
 ghost use Rattle.slots.specs.Slots.{view};
 ghost use Rattle.partition.specs.Held.{Held, Scratch, Advanced, Stands};
 ghost use Rattle.logs.specs.Written.{stored, Inside, movesTo, Written};
+use edges::put_row;
 use partition::Partition;
 use partition::settle;
 use partition::take_apart;
@@ -49,16 +50,6 @@ fn room(n: u16) -> usize
 
 // ---- the moves of one width
 
-// one move
-fn write_move(out: &mut [u16], from: usize, w: u16, s: u16, j: u16)
-    requires { ⌜ from + moveSize ≤ length (now out) ⌝ }
-    ensures { λ r. ⌜ now (out .exit) ≡ stored (now (out .entry)) from (moveOf w s j) ⌝ }
-{
-    out[from] = w;
-    out[from + 1] = s;
-    out[from + 2] = j;
-}
-
 // the moves of the first m positions of a queue, each under the name of its right neighbour
 fn write_moves(out: &mut [u16], from: usize, que: &[u16; 1000], name: &[u16; 1000], w: u16, m: u16)
     requires { ⌜ (m ≤ 1000) × Inside (now que) m × (from + moveSize * m ≤ length (now out)) ⌝ }
@@ -70,7 +61,7 @@ fn write_moves(out: &mut [u16], from: usize, que: &[u16; 1000], name: &[u16; 100
         q += 1;
         let i = load(que, q);
         let s = load(name, i + 1);
-        write_move(out, k, w, s, i);
+        put_row(out, k, w, s, i);
         k += 3;
     }
 }

@@ -152,7 +152,7 @@ pub fn advance(
 }
 
 impl Partition {
-    pub const MOST: usize = 1000;
+    pub const MOST: usize = edges::MOST;
 
     // the partition of a read at width 1
     pub fn fresh(read: &[u8]) -> Partition

@@ -8,5 +8,4 @@ pub mod Marked
 pub mod Naming
 pub mod Turns
 pub mod Widths
-pub mod Written
 pub mod Said

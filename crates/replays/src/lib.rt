@@ -5,9 +5,8 @@
 // first that is met of a part is its least. A width costs one pass over the positions and its entries, a width without entries costs nothing.
 ghost use mathlib.Core.Path.{_≡_};
 ghost use mathlib.Core.Bool.{true, not, _||_};
-ghost use mathlib.Core.List.{_++_};
 ghost use Prim.Native.Nat.{_+_, _≤_, _<_};
-ghost use lib.ListN.{length, drop};
+ghost use lib.ListN.{length};
 ghost use lib.Dec.{eqb};
 ghost use Rattle.words.specs.Rows.{rows};
 ghost use Rattle.words.specs.Reads.{at};
@@ -21,6 +20,9 @@ ghost use Rattle.slots.specs.Slots.{put, view};
 ghost use Rattle.refine.specs.Phases.{Clean};
 ghost use Rattle.replays.specs.Judge.{inRange, follows, Seen};
 ghost use Rattle.replays.specs.Split.{Formed, Splits, isAt, Marks, Run, split, headOf, Nameable, Named, Turned, Mid, Stayed, Groups};
+use edges::MOST;
+use edges::copy_names;
+use edges::top_of;
 use slots::load;
 use slots::store;
 use words::Replayed;
@@ -312,31 +314,7 @@ fn replay_all(name: &mut [u16; 1000], read: &[u8], log: &[u16], n: u16, width: u
     }
 }
 
-// the first n names go to the front of `out`
-fn write_names(out: &mut [u16], name: &[u16; 1000], n: u16)
-    requires { ⌜ (n ≤ 1000) × (n ≤ length (now out)) × (length (now name) ≡ 1000) ⌝ }
-    ensures { λ r. ⌜ now (out .exit) ≡ view n (now (name .entry)) ++ drop n (now (out .entry)) ⌝ }
-{
-    let mut i: u16 = 0;
-    while i < n {
-        let at = slots::wide(i);
-        i += 1;
-        let s = load(name, i);
-        out[at] = s;
-    }
-}
-
 // ---- the call
-
-fn top_of(n: u16) -> u16
-    ensures { λ r. ⌜ r ≡ topOf n ⌝ }
-{
-    let h = n / 2;
-    if h < 1 {
-        return 1;
-    }
-    h
-}
 
 // is the width no width of the log's tables?
 fn bad_width(n: u16, width: u32) -> bool
@@ -358,7 +336,7 @@ pub fn replay(read: &[u8], log: &[u16], width: u32, out: &mut [u16]) -> Replayed
         × (now (out .exit) ≡ replayLeaves (now (read .entry)) (now (log .entry)) width (now (out .entry))) ⌝ }
 {
     let long = read.len();
-    if 1000 < long {
+    if MOST < long {
         return Replayed::TooLong(long);
     }
     let n = long as u16;
@@ -374,6 +352,6 @@ pub fn replay(read: &[u8], log: &[u16], width: u32, out: &mut [u16]) -> Replayed
     }
     let mut name = [0u16; 1000];
     replay_all(&mut name, read, log, n, width as u16);
-    write_names(out, &name, n);
+    copy_names(out, &name, n);
     Replayed::Names(long)
 }

@@ -9,13 +9,11 @@ ghost use Rattle.words.specs.Groups.{table};
 ghost use Rattle.words.specs.Logs.{within};
 ghost use Rattle.words.specs.Answers.{tabledSays};
 ghost use Rattle.words.specs.Calls.{tableAnswer, tableLeaves};
-ghost use Rattle.slots.specs.Slots.{view};
 ghost use Rattle.partition.specs.Held.{Held, Scratch};
 ghost use Rattle.tables.specs.Reach.{Reaches};
+use edges::copy_names;
 use partition::Partition;
 use partition::advance;
-use slots::load;
-use slots::wide;
 use words::Tabled;
 
 // one width on; returns the width reached, which is w once nothing moves
@@ -114,19 +112,6 @@ fn steps_to(
     }
 }
 
-// the first n names go to the front of `out`
-fn copy_names(out: &mut [u16], name: &[u16; 1000], n: u16)
-    requires { ⌜ (n ≤ 1000) × (n ≤ length (now out)) × (length (now name) ≡ 1000) ⌝ }
-    ensures { λ r. ⌜ now (out .exit) ≡ view n (now (name .entry)) ++ drop n (now (out .entry)) ⌝ }
-{
-    let mut i: u16 = 0;
-    while i < n {
-        let k = wide(i);
-        i += 1;
-        out[k] = load(name, i);
-    }
-}
-
 // the table at width w goes to the front of `out`
 fn write_table(out: &mut [u16], read: &[u8], w: u16)
     requires { ⌜ (length (now read) ≤ 1000) × (length (now read) ≤ length (now out)) × (1 ≤ w) ⌝ }
@@ -186,7 +171,7 @@ pub fn group_table(read: &[u8], width: u32, out: &mut [u16]) -> Tabled
         × (now (out .exit) ≡ tableLeaves (now (read .entry)) width (now (out .entry))) ⌝ }
 {
     let long = read.len();
-    if 1000 < long {
+    if Partition::MOST < long {
         return Tabled::TooLong(long);
     }
     if !is_width(long as u32, width) {

@@ -7,7 +7,7 @@ use lib.ListN.{length}
 use borrow.Author.Needs.{needs}
 use Rattle.words.specs.Moves.{moveSize}
 use Rattle.logs.specs.Written.{stored, movesTo}
-use Rattle.logs.proofs.Stores.{stored-length, moves-to-begin, moves-to-more}
+use Rattle.logs.proofs.Stores.{move-stored, stored-length, moves-to-begin, moves-to-more}
 use Rattle.logs.proofs.write_moves.Statement.{statement}
 use Rattle.logs.proofs.write_moves.Tie as tie
 
@@ -37,8 +37,8 @@ add-load c = omega (arith, loaded c)
 load-requires-2 : tie.Need-load-requires-2 Inv-loop μ-loop
 load-requires-2 c κs = (omega arith, omega (arith, loaded c))
 
-write-move-requires : tie.Need-write-move-requires Inv-loop μ-loop
-write-move-requires c κs =
+put-row-requires : tie.Need-put-row-requires Inv-loop μ-loop
+put-row-requires c κs =
     let l = c .before .before .before .before .loop in
     omega (arith, c .before .before .before .before .before .before .pre .2, l .inv .1, l .inv .2, c .before .before .before .loop-test .taken)
 
@@ -51,7 +51,7 @@ loop-less c = search needs
 loop-again : tie.Need-loop-again Inv-loop μ-loop
 loop-again c =
     let l = c .before .before .before .before .before .before .before .loop in
-    let e = c .before .before .write-move .ensures in (
+    let e = move-stored _ _ _ _ _ _ (c .before .before .put-row .ensures) in (
       omega (arith, c .before .before .before .before .before .before .loop-test .taken),
       omega (arith, l .inv .1),
       stored-length _ _ _ _ e ∙ l .inv .2,
@@ -78,7 +78,7 @@ write-moves-spec =
     load-requires
     add-load
     load-requires-2
-    write-move-requires
+    put-row-requires
     add-k
     loop-less
     loop-again

@@ -69,8 +69,8 @@ replay-all-requires c κs =
     let e = b .before .before .before in
     (formed-good _ _ (e .before .before .if1 .left) (rw (b .first-bad .ensures) at (c .before .if4 .left)), refl, refl, wide e .1)
 
-write-names-requires : tie.Need-write-names-requires
-write-names-requires c κs = search needs
+copy-names-requires : tie.Need-copy-names-requires
+copy-names-requires c κs = search needs
 
 same-length : tie.Need-same-length
 same-length c = search needs
@@ -85,7 +85,7 @@ returns-5 c =
     let r = b .before .before in
     let d = r .before .before in
     names-said _ _ _ _ (d .before .if1 .left) (sym (d .bad-width .ensures) ∙ r .before .if2 .left) (r .if3 .left) (rw (b .first-bad .ensures) at (f .if4 .left)) _
-    (rw (← a .replay-all .ensures .1) (w .write-names .ensures))
+    (rw (← a .replay-all .ensures .1) (w .copy-names .ensures))
 
 pub replay-spec : {M : Type 1} → statement M
 replay-spec =
@@ -102,6 +102,6 @@ replay-spec =
     returns-4
     cast-replay-all
     replay-all-requires
-    write-names-requires
+    copy-names-requires
     same-length
     returns-5)

@@ -1,4 +1,4 @@
--- `tables::copy_names` meets its contract. The loop's invariant: the first i names are copied; the measure is how many are left.
+-- `edges::copy_names` meets its contract. The loop's invariant: the first i names are copied; the measure is how many are left.
 -- Assumes nothing.
 use Prim.Native.Nat.{_-_, _≤_}
 use mathlib.Core.Path.{_≡_, refl}
@@ -7,9 +7,9 @@ use native.Mathlib.Omega.{arith}
 use lib.ListN.{length, drop, length-set}
 use borrow.Author.Needs.{needs}
 use Rattle.slots.specs.Slots.{view}
-use Rattle.tables.proofs.Copied.{copied-none, copied-more}
-use Rattle.tables.proofs.copy_names.Statement.{statement}
-use Rattle.tables.proofs.copy_names.Tie as tie
+use Rattle.edges.proofs.Copied.{copied-none, copied-more}
+use Rattle.edges.proofs.copy_names.Statement.{statement}
+use Rattle.edges.proofs.copy_names.Tie as tie
 
 abbrev Inv-loop : tie.InvT-loop
 Inv-loop out₀ name n i₀ out i = (i ≤ n) × (out ≡ view i name ++ drop i out₀) × (length out ≡ length out₀)

@@ -1,14 +1,12 @@
--- `logs::write_move` meets its contract: its three stores are the run of the move's numbers. Assumes nothing.
+-- `edges::put_row` meets its contract: its three stores are the run of the row's numbers. Assumes nothing.
 use Prim.Native.Nat.{suc, _+_}
 use mathlib.Core.Path.{_≡_}
 use native.Mathlib.Omega.{arith}
 use native.Mathlib.Numerals.{add-one}
 use lib.ListN.{length-set}
-use Rattle.words.specs.Moves.{moveOf}
 use borrow.Author.Needs.{needs}
-use Rattle.logs.specs.Written.{stored}
-use Rattle.logs.proofs.write_move.Statement.{statement}
-use Rattle.logs.proofs.write_move.Tie as tie
+use Rattle.edges.proofs.put_row.Statement.{statement}
+use Rattle.edges.proofs.put_row.Tie as tie
 
 mul-out : tie.Need-mul-out
 mul-out c = search needs
@@ -38,11 +36,10 @@ same-length : tie.Need-same-length
 same-length c = search needs
 
 returns : tie.Need-returns
-unfolding moveOf stored
 returns c = let e : c .args .from + 2 ≡ suc (suc (c .args .from)) = omega arith in rw (add-one (c .args .from), e)
 
-pub write-move-spec : {M : Type 1} → statement M
-write-move-spec =
+pub put-row-spec : {M : Type 1} → statement M
+put-row-spec =
     tie.close
     (tie.spec
     mul-out

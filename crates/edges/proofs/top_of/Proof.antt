@@ -1,8 +1,8 @@
--- `lists::top_of` meets its contract. Assumes nothing.
+-- `edges::top_of` meets its contract. Assumes nothing.
 use native.Mathlib.Omega.{arith}
 use Rattle.words.specs.Moves.{topOf}
-use Rattle.lists.proofs.top_of.Statement.{statement}
-use Rattle.lists.proofs.top_of.Tie as tie
+use Rattle.edges.proofs.top_of.Statement.{statement}
+use Rattle.edges.proofs.top_of.Tie as tie
 
 returns : tie.Need-returns
 unfolding topOf
