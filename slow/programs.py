@@ -2,7 +2,7 @@
 
 from reads import every
 from rules import (answer_claim, answer_group_table, answer_list, answer_log, answer_replay, claim,
-                   entries, flat, log, moves, small, table)
+                   entries, flat, log, moves, printed, small, table)
 
 def text(reads):
     return b"".join(x + b"\n" for x in reads)
@@ -67,7 +67,15 @@ def byte_calls():
 def run_calls():
     return "".join([*short_calls(), *long_calls(), *byte_calls()]).encode()
 
+def print_repeats():
+    # all known, Fibonacci and seeded reads, then bytes of any value and lines at the edges: empty, of 1,000, 1,001 and 70,000 bytes
+    others = bytes(b for b in range(256) if b != 10)
+    lines = every() + [others, b"", b"CA" * 500, b"CA" * 500 + b"C", b"ACGTA" * 14000, b"", b"A"]
+    last = b"ACAACACA"  # without a newline
+    return text(lines) + last, "".join(printed(x, 0) for x in lines + [last]).encode()
+
 def programs():
     short = [x for x in every() if len(x) <= 34]
     return {"walk_widths": (text(short), b"".join(map(walk_widths, short))),
-            "run_calls": (b"", run_calls())}
+            "run_calls": (b"", run_calls()),
+            "print_repeats": print_repeats()}

@@ -1,0 +1,3 @@
+pub mod Hearing
+pub mod Collecting
+pub mod Stepping

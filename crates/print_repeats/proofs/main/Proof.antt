@@ -1,0 +1,38 @@
+-- `print_repeats::main` meets its contract: the buffers that it makes are large enough, and the list has its room. Assumes nothing.
+use mathlib.Core.Path.{refl}
+use lib.Dec.{lit≤}
+use Rattle.words.specs.Rows.{rows}
+use Rattle.words.specs.Lists.{lineSize}
+use borrow.Author.Needs.{needs}
+use Rattle.print_repeats.proofs.main.Statement.{statement}
+use Rattle.print_repeats.proofs.main.Tie as tie
+
+slice-aggregate-run : tie.Need-slice-aggregate-run
+slice-aggregate-run c = search needs
+
+slice-aggregate-run-2 : tie.Need-slice-aggregate-run-2
+slice-aggregate-run-2 c = search needs
+
+slice-aggregate-run-3 : tie.Need-slice-aggregate-run-3
+slice-aggregate-run-3 c = search needs
+
+slice-aggregate-run-4 : tie.Need-slice-aggregate-run-4
+slice-aggregate-run-4 c = search needs
+
+run-requires : tie.Need-run-requires
+unfolding rows lineSize
+run-requires c κs = (lit≤ tt, record { room = lit≤ tt; inside = lit≤ tt }, refl)
+
+returns : tie.Need-returns
+returns c = search needs
+
+pub main-spec : {M : Type 1} → statement M
+main-spec =
+    tie.close
+    (tie.spec
+    slice-aggregate-run
+    slice-aggregate-run-2
+    slice-aggregate-run-3
+    slice-aggregate-run-4
+    run-requires
+    returns)

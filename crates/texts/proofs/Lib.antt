@@ -1,0 +1,7 @@
+pub mod Putting
+pub mod Decimals
+pub mod Refused
+pub mod Listing
+pub mod Bounds
+pub mod Said
+pub mod Shown

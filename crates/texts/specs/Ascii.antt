@@ -1,0 +1,10 @@
+-- Words as the bytes that are printed.
+use Prim.Native.Nat.{ℕ}
+use Prim.Native.Char.{code}
+use Prim.Native.String.{String, [], _∷_}
+use mathlib.Core.List.{List, [] as none, _∷_ as _then_}
+
+-- the ASCII codes of a word
+unfoldable pub ascii : String → List ℕ
+ascii [] = none
+ascii (c ∷ s) = code c then ascii s
