@@ -3,4 +3,5 @@ pub mod Growing
 pub mod Walks
 pub mod Gives
 pub mod Passing
+pub mod Fours
 pub mod Marks

@@ -9,8 +9,9 @@ use lib.Seq.{getD-set-other}
 use Rattle.words.specs.Reads.{at}
 use Rattle.words.proofs.Tests.{lt-or-ge}
 use Rattle.refine.specs.Phases.{FlagsOf, Marked}
-use Rattle.queue.specs.Filling.{Cleared}
+use Rattle.queue.specs.Filling.{four, Cleared}
 use Rattle.queue.proofs.Gives.{flag-none}
+use Rattle.queue.proofs.Fours.{four-none}
 
 -- a name of the block b has its mark there
 mark-block : (s b : ℕ) → 32 * b + 1 ≤ s → s < 32 * b + 33 → (s - 1) / 32 ≡ b
@@ -37,3 +38,10 @@ module _ (f block : List ℕ) (b : ℕ) (M : Marked f block) where
           go (inl l) m = other (sym (C .below s a l) ∙ e) (λ q. omega (arith, block-mark s b a q .0))
           go (inr l) (inl m) = absurd (omega (arith, e, C .gone s l m u))
           go (inr l) (inr m) = other (sym (C .above s m) ∙ e) (λ q. omega (arith, block-mark s b a q .1))
+
+-- four blocks none of which is marked have no flag
+module _ (t f block : List ℕ) (b : ℕ) (F : FlagsOf t f) (M : Marked f block) (e : four block b ≡ 0) where
+  pub marks-none : (s : ℕ) → 32 * b + 1 ≤ s → s < 32 * b + 129 → s ≤ 1000 → at f s ≡ 0
+  marks-none s l h u =
+      marked-none f block ((s - 1) / 32) M t F (λ o. omega (arith, o, four-none block b e ((s - 1) / 32) (omega arith) (omega arith)))
+      s (omega arith) (omega arith) u

@@ -1,9 +1,9 @@
 -- How the queue fills, part by part, while the flags of the small groups are cleared.
-use Prim.Native.Nat.{ℕ, suc, _+_, _-_, _≤_, _<_}
+use Prim.Native.Nat.{ℕ, suc, _+_, _-_, _*_, _≤_, _<_}
 use mathlib.Core.Path.{_≡_}
 use mathlib.Core.Bool.{cond}
 use mathlib.Core.List.{List, [], _∷_, _++_}
-use lib.ListN.{length}
+use lib.ListN.{length, getD}
 use lib.Dec.{ltb}
 use Rattle.words.specs.Range.{gather}
 use Rattle.words.specs.Reads.{at}
@@ -11,6 +11,10 @@ use Rattle.words.specs.Groups.{Least, gap}
 use Rattle.slots.specs.Slots.{view}
 use Rattle.refine.specs.Refine.{leftAt, leftOf}
 use Rattle.refine.specs.Phases.{Gaps}
+
+-- the four numbers behind the first i of an array, as one number of 64 bits
+unfoldable pub four : List ℕ → ℕ → ℕ
+four a i = getD a i 0 + 65536 * getD a (i + 1) 0 + 4294967296 * getD a (i + 2) 0 + 281474976710656 * getD a (i + 3) 0
 
 -- the position left of j, if there is one
 unfoldable pub left : ℕ → List ℕ

@@ -4,11 +4,11 @@ use Rattle.words.specs.Reads.{at}
 use Rattle.slots.proofs.load.Statement.{statement}
 use Rattle.slots.proofs.load.Tie as tie
 
-sub-wide : tie.Need-sub-wide
-sub-wide c = search needs
-
 wide-requires : tie.Need-wide-requires
 wide-requires c κs = search needs
+
+sub-k : tie.Need-sub-k
+sub-k c = search needs
 
 mul-result : tie.Need-mul-result
 mul-result c = search needs
@@ -21,4 +21,4 @@ unfolding at
 returns c = cc
 
 pub load-spec : {M : Type 1} → statement M
-load-spec = tie.close (tie.spec sub-wide wide-requires mul-result element-copy-out-result returns)
+load-spec = tie.close (tie.spec wide-requires sub-k mul-result element-copy-out-result returns)

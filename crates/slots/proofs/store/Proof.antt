@@ -4,11 +4,11 @@ use Rattle.slots.specs.Slots.{put}
 use Rattle.slots.proofs.store.Statement.{statement}
 use Rattle.slots.proofs.store.Tie as tie
 
-sub-wide : tie.Need-sub-wide
-sub-wide c = search needs
-
 wide-requires : tie.Need-wide-requires
 wide-requires c κs = search needs
+
+sub-k : tie.Need-sub-k
+sub-k c = search needs
 
 mul-a : tie.Need-mul-a
 mul-a c = search needs
@@ -21,4 +21,4 @@ unfolding put
 returns c = cc
 
 pub store-spec : {M : Type 1} → statement M
-store-spec = tie.close (tie.spec sub-wide wide-requires mul-a element-write-a returns)
+store-spec = tie.close (tie.spec wide-requires sub-k mul-a element-write-a returns)

@@ -1,0 +1,49 @@
+/* How much stack each call takes: below the caller's frame the stack is filled with one byte, and what the call changed is counted. */
+#include "../c/sorunggyeo.h"
+#include <pthread.h>
+#include <stdio.h>
+#include <string.h>
+
+enum { ROOM = 1 << 20, FILL = 0xa5, NEAR = 256 };
+static uint8_t stack[ROOM] __attribute__((aligned(4096)));
+static uint8_t read[SORUNGGYEO_MOST];
+static uint16_t out[30000], log_[SORUNGGYEO_LOG_MOST];
+static size_t moves;
+
+static void list(void) { sorunggyeo_list(read, sizeof read, 0, out, 30000); }
+static void group_table(void) { sorunggyeo_group_table(read, sizeof read, 500, out, 1000); }
+static void make_log(void) { moves = sorunggyeo_log(read, sizeof read, log_, SORUNGGYEO_LOG_MOST).value; }
+static void replay(void) { sorunggyeo_replay(read, sizeof read, log_, 3 * moves, 500, out, 1000); }
+static void claim(void) { sorunggyeo_claim(read, sizeof read, 1, 2, 250); }
+static void motif(void) { sorunggyeo_motif(read, sizeof read, 1, 2, 250); }
+static void next(void) { sorunggyeo_next(log_, 3 * moves, 0); }
+
+static const struct { const char *name; void (*call)(void); } calls[] = {
+    {"list", list}, {"group_table", group_table}, {"log", make_log}, {"replay", replay}, {"claim", claim}, {"motif", motif}, {"next", next}};
+
+/* what a call leaves alone within NEAR bytes of the caller's frame is not seen */
+static void *measure(void *unused)
+{
+    uint8_t here;
+    size_t frame = &here - stack;
+    for (size_t k = 0; k < sizeof calls / sizeof *calls; k++) {
+        size_t low = 0;
+        memset(stack, FILL, frame - NEAR);
+        calls[k].call();
+        while (stack[low] == FILL && low < frame - NEAR) low++;
+        printf("%s %zu\n", calls[k].name, frame - low);
+    }
+    return unused;
+}
+
+int main(void)
+{
+    pthread_attr_t attr;
+    pthread_t thread;
+    for (size_t i = 0; i < sizeof read; i++) read[i] = "ACCA"[i % 2 + (i < 500 ? 0 : 2)];
+    pthread_attr_init(&attr);
+    pthread_attr_setstack(&attr, stack, ROOM);
+    pthread_create(&thread, &attr, measure, NULL);
+    pthread_join(thread, NULL);
+    return 0;
+}
