@@ -1,8 +1,9 @@
 # What each program of crates/ is given on standard input, and what it must write.
 
-from reads import every
-from rules import (answer_claim, answer_group_table, answer_list, answer_log, answer_replay, claim,
-                   entries, flat, log, moves, printed, small, table)
+from itertools import groupby
+from reads import Dice, DNA, every, fibonacci, known
+from rules import (LIMIT, LINES, answer_claim, answer_group_table, answer_list, answer_log, answer_replay, claim,
+                   entries, flat, groups_of, lines_of_groups, log, moves, printed, replay, repeats, small, table, top)
 
 def text(reads):
     return b"".join(x + b"\n" for x in reads)
@@ -67,6 +68,45 @@ def byte_calls():
 def run_calls():
     return "".join([*short_calls(), *long_calls(), *byte_calls()]).encode()
 
+def row(word, numbers):
+    return "  %s %s\n" % (word, " ".join(map(str, numbers)))
+
+def view_width(names, moved, lines):
+    # one width at the bench: the groups, the moves, the lines
+    groups = groups_of(names)
+    for s, some in sorted(groups.items()):
+        if len(some) > 1:
+            yield row("group %d:" % s, some)
+    alone = [i for some in groups.values() if len(some) == 1 for i in some]
+    if alone:
+        yield row("alone:", sorted(alone))
+    for s, some in groupby(moved, lambda move: move[1]):
+        yield row("moved under %d:" % s, [j for _, _, j in some])
+    for line in lines:
+        yield row("repeat", line)
+
+def view(x):
+    lines = repeats(x, 0) if len(x) <= LIMIT else []
+    if len(x) > LIMIT: return b"refused 1 %d\n" % len(x)
+    if len(lines) > LINES: return b"refused 3 %d\n" % len(lines)
+    own, text, differ = log(x), [], []
+    widths = range(1, top(len(x)) + 1) if x else []
+    for w in widths:
+        names = replay(x, flat(own), w)
+        part = [line for line in lines if line[1] == w]
+        text += ["width %d\n" % w, *view_width(names, [move for move in own if move[0] == w], part)]
+        if part != lines_of_groups(names, w):
+            differ.append(w)
+    last = "differ at width %d" % differ[0] if differ else "agree at every width"
+    return b"read %d %s\n" % (len(x), x) + ("".join(text) + "list and groups %s\n" % last).encode()
+
+def bench_view():
+    dice = Dice(7019)
+    reads = known() + [fibonacci()[7], dice.word(DNA, 40), dice.word(DNA, 57), b"\0\xff\0\0\xff\0\xff\0", b"", b"T",
+                       b"A" * 1001, b"ACGTTACGTT" * 250]
+    last = b"ACGTACG"
+    return text(reads) + last, b"".join(map(view, reads + [last]))
+
 def print_repeats():
     # all known, Fibonacci and seeded reads, then bytes of any value and lines at the edges: empty, of 1,000, 1,001 and 70,000 bytes
     others = bytes(b for b in range(256) if b != 10)
@@ -78,4 +118,5 @@ def programs():
     short = [x for x in every() if len(x) <= 34]
     return {"walk_widths": (text(short), b"".join(map(walk_widths, short))),
             "run_calls": (b"", run_calls()),
-            "print_repeats": print_repeats()}
+            "print_repeats": print_repeats(),
+            "bench_view": bench_view()}

@@ -148,3 +148,22 @@ def printed(x, mode):
         return "refused %d %d\n" % (number, value)
     lines = ["%d %d %d\n" % line for line in entries(buffer[:3 * value])]
     return "read %d repeats %d\n" % (len(x), value) + "".join(lines)
+
+def groups_of(names):
+    # the groups of a table: each name with its positions
+    members = {}
+    for i, s in enumerate(names, 1):
+        members.setdefault(s, []).append(i)
+    return members
+
+def lines_of_groups(names, p):
+    # the lines that the groups of width p give: a start is p before the next position of its group
+    places = groups_of(names).values()
+    starts = {i for some in places for i, j in zip(some, some[1:]) if j - i == p}
+    found = []
+    for i in sorted(starts):
+        e = 2
+        while i + (e - 1) * p in starts:
+            e += 1
+        found.append((i, p, e))
+    return found

@@ -15,17 +15,17 @@ module _ (number value : ℕ) where
   refused-is =
       rw (append-nil (numberText value newline), append-assoc (ascii "refused ") (numberText number space) (numberText value newline))
 
-  module _ {buf : List ℕ} (h : Room buf 0 (refusedText number (value ∷ []))) where
-    all-room : Room buf 0 (ascii "refused " ++ numberText number space ++ numberText value newline)
+  module _ {buf : List ℕ} {from : ℕ} (h : Room buf from (refusedText number (value ∷ []))) where
+    all-room : Room buf from (ascii "refused " ++ numberText number space ++ numberText value newline)
     all-room = rw refused-is at h
 
-    head-room : Room buf 0 (ascii "refused " ++ numberText number space)
+    head-room : Room buf from (ascii "refused " ++ numberText number space)
     head-room = room-left (numberText value newline) all-room
 
-    pub word-room : Room buf 0 (ascii "refused ")
+    pub word-room : Room buf from (ascii "refused ")
     word-room = room-left (numberText number space) head-room
 
-    module _ {mid : List ℕ} {at : ℕ} (p : Puts buf 0 (ascii "refused ") mid at) where
+    module _ {mid : List ℕ} {at : ℕ} (p : Puts buf from (ascii "refused ") mid at) where
       pub number-room : Room mid at (numberText number space)
       number-room = puts-room p head-room
 
@@ -34,5 +34,5 @@ module _ (number value : ℕ) where
         value-room = puts-room (puts-more p q head-room) all-room
 
         pub refused-puts : {new : List ℕ} {end : ℕ} → Puts next here (numberText value newline) new end →
-            Puts buf 0 (refusedText number (value ∷ [])) new end
+            Puts buf from (refusedText number (value ∷ [])) new end
         refused-puts s = rw refused-is (puts-more (puts-more p q head-room) s all-room)

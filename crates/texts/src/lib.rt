@@ -105,11 +105,11 @@ fn put_list(buf: &mut [u8], len: usize, count: usize, list: &[u16]) -> usize
 }
 
 // the number of a refusal and what it returns
-fn put_refused(buf: &mut [u8], number: u64, value: u64) -> usize
-    requires { ⌜ Room (now buf) 0 (refusedText number (value ∷ [])) ⌝ }
-    ensures { λ r. ⌜ Puts (now (buf .entry)) 0 (refusedText number (value ∷ [])) (now (buf .exit)) r ⌝ }
+pub fn put_refused(buf: &mut [u8], start: usize, number: u64, value: u64) -> usize
+    requires { ⌜ Room (now buf) start (refusedText number (value ∷ [])) ⌝ }
+    ensures { λ r. ⌜ Puts (now (buf .entry)) start (refusedText number (value ∷ [])) (now (buf .exit)) r ⌝ }
 {
-    let at = put_word(buf, 0, b"refused ");
+    let at = put_word(buf, start, b"refused ");
     let at = put_number(buf, at, number, b' ');
     put_number(buf, at, value, b'\n')
 }
@@ -122,8 +122,8 @@ pub fn write_answer(len: usize, answer: Listed, list: &[u16], buf: &mut [u8]) ->
 {
     match answer {
         Listed::Lines(count) => put_list(buf, len, count, list),
-        Listed::TooLong(n) => put_refused(buf, 1, n as u64),
-        Listed::BadMode(mode) => put_refused(buf, 2, mode as u64),
-        Listed::NoRoom(count) => put_refused(buf, 3, count as u64),
+        Listed::TooLong(n) => put_refused(buf, 0, 1, n as u64),
+        Listed::BadMode(mode) => put_refused(buf, 0, 2, mode as u64),
+        Listed::NoRoom(count) => put_refused(buf, 0, 3, count as u64),
     }
 }

@@ -1,0 +1,4 @@
+pub mod Adding
+pub mod Reaching
+pub mod Made
+pub mod Stepping

@@ -1,0 +1,135 @@
+-- What the list and log calls made of a read: on success the front of the slice is the read's list or log, whole, and a read of at most
+-- 1,000 bytes always has room for its log. Assumes nothing.
+use Prim.Native.Nat.{ℕ, zero, suc, _+_, _-_, _*_, _≤_, _<_}
+use mathlib.Core.Path.{_≡_, refl, sym, ap, _∙_}
+use mathlib.Core.Logic.{_⊎_, inl, inr, _≢_}
+use mathlib.Core.List.{List, [], _∷_}
+use native.Mathlib.Omega.{arith}
+use lib.ListN.{length, length-append, getD, take, drop}
+use lib.Seq.{length-take-le, take-at}
+use lib.Dec.{eqb}
+use borrow.Author.Tests.{eq-eqb, ne-eqb}
+use Rattle.words.specs.Range.{gather}
+use Rattle.words.specs.Rows.{rows}
+use Rattle.words.specs.Reads.{most}
+use Rattle.words.specs.Lists.{lineSize, linesAt, lines, lineCount}
+use Rattle.words.specs.Moves.{moveSize, log, M}
+use Rattle.words.specs.Answers.{Answer, success, refusal}
+use Rattle.words.specs.Calls.{listAnswer, listLeaves, logAnswer, logLeaves}
+use Rattle.words.proofs.Tests.{lt-or-ge}
+use Rattle.words.proofs.Rows.{rows-times}
+use Rattle.words.proofs.Lists.{lines-full}
+use Rattle.words.proofs.Lines.{lines-top}
+use Rattle.words.proofs.Room.{log-length}
+use Rattle.logs.proofs.Powers.{room-few}
+use Rattle.lister.proofs.Answered.{front, list-decided, log-decided}
+use Rattle.texts.specs.Texts.{refusedText}
+use Rattle.bench_view.specs.Views.{widthsOf, readView, viewText, firstDiffer}
+use Rattle.bench_view.specs.Places.{Reached}
+use Rattle.bench_view.specs.declared.Place.{Place}
+use Rattle.bench_view.proofs.Reaching.{widths-top, widths-none}
+
+-- the front of a slice
+front-takes : (made old : List ℕ) (n : ℕ) → length made ≡ n → (take n (front made old) ≡ made) × (n ≤ length (front made old))
+front-takes made old n e = (take-at made (drop (length made) old) n e, omega (arith, e, length-append made (drop (length made) old)))
+
+-- ---- the log
+
+enough : (n : ℕ) → n ≤ most → moveSize * M n ≤ 29970
+unfolding M
+enough zero h = omega arith
+enough (suc n) h = omega (arith, room-few (suc n) (omega arith) h)
+
+module _ (x out : List ℕ) (few : length x ≤ most) (room : 29970 ≤ length out) {a : Answer} {made : List ℕ}
+    (says : a ≡ logAnswer x out) (left : made ≡ logLeaves x out) {k : ℕ} (told : (count : ℕ) → a ≡ success count → k ≡ count) where
+  done : (logAnswer x out ≡ success (rows moveSize (log x))) × (logLeaves x out ≡ front (log x) out)
+  done = log-decided x out .done few (omega (arith, enough (length x) few))
+
+  log-size : length (log x) ≡ 3 * k
+  log-size =
+      let e = told (rows moveSize (log x)) (says ∙ done .0) in
+      omega (arith, e, log-length x, rows-times moveSize (log x) _ (omega arith) (log-length x))
+
+  pub log-front : take (3 * k) made ≡ log x
+  log-front = ap (take (3 * k)) (left ∙ done .1) ∙ front-takes (log x) out (3 * k) log-size .0
+
+  pub log-inside : 3 * k ≤ length made
+  log-inside = omega (arith, ap length (left ∙ done .1), front-takes (log x) out (3 * k) log-size .1)
+
+-- ---- the list
+
+pub third : (k : ℕ) → lineSize * k ≡ 3 * k
+unfolding lineSize
+third k = refl
+
+module _ (x list : List ℕ) {n v : ℕ} (told : listAnswer x 0 list ≡ record { number = n; values = v ∷ [] }) where
+  number-is : listAnswer x 0 list .number ≡ n
+  number-is = ap (λ (a : Answer). a .number) told
+
+  pub view-read : n ≡ 0 → viewText (listAnswer x 0 list) x ≡ readView x
+  unfolding viewText
+  view-read z = rw (number-is, z)
+
+  pub view-refused : n ≢ 0 → viewText (listAnswer x 0 list) x ≡ refusedText n (v ∷ [])
+  unfolding viewText
+  view-refused ne = rw (told, ne-eqb n 0 ne)
+
+  module _ (z : n ≡ 0) where
+    differs : (k w : ℕ) → listAnswer x 0 list ≡ refusal (suc k) w → {A : Type 0} → A
+    unfolding refusal
+    differs k w e = absurd (omega (arith, z, number-is, ap (λ (a : Answer). a .number) e))
+
+    list-done : (length x ≤ most) × (v ≡ lineCount x 0) × (listLeaves x 0 list ≡ front (lines x 0) list)
+    unfolding success
+    list-done = go (lt-or-ge most (length x)) (lt-or-ge (rows lineSize list) (lineCount x 0))
+      where
+        go : (most < length x) ⊎ (length x ≤ most) → (rows lineSize list < lineCount x 0) ⊎ (lineCount x 0 ≤ rows lineSize list) →
+            (length x ≤ most) × (v ≡ lineCount x 0) × (listLeaves x 0 list ≡ front (lines x 0) list)
+        go (inl h) l = differs 0 (length x) (list-decided x 0 list .long h .0)
+        go (inr h) (inl l) = differs 2 (lineCount x 0) (list-decided x 0 list .no-room h (omega arith) l .0)
+        go (inr h) (inr l) =
+            let d = list-decided x 0 list .done h (omega arith) l in
+            (h, ap (λ (a : Answer). getD (a .values) 0 0) (sym told ∙ d .0), d .1)
+
+    pub list-few : length x ≤ most
+    list-few = list-done .0
+
+    list-size : length (lines x 0) ≡ lineSize * v
+    unfolding lineCount
+    list-size = lines-full x 0 ∙ ap (λ (k : ℕ). lineSize * k) (sym (list-done .1))
+
+    module _ {made : List ℕ} (left : made ≡ listLeaves x 0 list) where
+      pub list-front : take (lineSize * v) made ≡ lines x 0
+      list-front = ap (take (lineSize * v)) (left ∙ list-done .2) ∙ front-takes (lines x 0) list (lineSize * v) list-size .0
+
+      pub list-inside : lineSize * v ≤ length made
+      list-inside = omega (arith, ap length (left ∙ list-done .2), front-takes (lines x 0) list (lineSize * v) list-size .1)
+
+-- a read over the limit
+pub view-long : (x list : List ℕ) → most < length x → viewText (listAnswer x 0 list) x ≡ refusedText 1 (length x ∷ [])
+unfolding refusal
+view-long x list h = view-refused x list (list-decided x 0 list .long h .0) (omega arith)
+
+-- ---- the verdict
+
+pub taken-size : (l list : List ℕ) (count : ℕ) → lineSize * count ≤ length list → take (lineSize * count) list ≡ l → lineSize * count ≡ length l
+taken-size l list count h e = sym (length-take-le (lineSize * count) list h) ∙ ap length e
+
+-- the lines of the widths that are shown are the list
+lines-shown : (x : List ℕ) → gather (linesAt x 0) (widthsOf (length x)) 1 ≡ lines x 0
+unfolding lines
+lines-shown x = go (length x) refl
+  where
+    go : (n : ℕ) → length x ≡ n → gather (linesAt x 0) (widthsOf (length x)) 1 ≡ lines x 0
+    go zero e = ap (λ (k : ℕ). gather (linesAt x 0) k 1) (widths-none x e ∙ sym e)
+    go (suc n) e = ap (λ (k : ℕ). gather (linesAt x 0) k 1) (widths-top x (omega arith)) ∙ sym (lines-top x 0)
+
+-- no line is left over, and list and groups agreed at every width
+pub verdict-agrees : {x : List ℕ} {p : Place} (count w : ℕ) → Reached x (widthsOf (length x) + 1) p → lineSize * count ≡ length (lines x 0)
+    → firstDiffer (p .differ) (eqb (p .listed) count) w ≡ 0
+unfolding firstDiffer lineSize
+verdict-agrees {x} {p} count w r e =
+    let b : widthsOf (length x) + 1 - 1 ≡ widthsOf (length x) = omega arith in
+    let l : length (gather (linesAt x 0) (widthsOf (length x) + 1 - 1) 1) ≡ length (lines x 0) =
+    ap (λ (k : ℕ). length (gather (linesAt x 0) k 1)) b ∙ ap length (lines-shown x) in
+    rw (r .agree, eq-eqb (p .listed) count (omega (arith, r .listed, l, e)))

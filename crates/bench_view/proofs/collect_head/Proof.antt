@@ -1,0 +1,30 @@
+-- `bench_view::collect_head` meets its contract: room is made for the longest first line, and the line is put there. Assumes nothing.
+use native.Mathlib.Omega.{arith}
+use borrow.Author.Needs.{needs}
+use Rattle.views.proofs.Bounds.{head-bound}
+use Rattle.bench_view.proofs.Adding.{text-room, text-adds}
+use Rattle.bench_view.proofs.collect_head.Statement.{statement}
+use Rattle.bench_view.proofs.collect_head.Tie as tie
+
+add-room : tie.Need-add-room
+add-room c = search needs
+
+room-requires : tie.Need-room-requires
+room-requires c κs = search needs
+
+put-head-requires : tie.Need-put-head-requires
+put-head-requires c κs = text-room _ _ (head-bound _ (omega arith)) (omega arith) (c .before .room .ensures .0)
+
+same-length : tie.Need-same-length
+same-length c = search needs
+
+returns : tie.Need-returns
+returns c =
+    let u = c .before .before in
+    let v = u .before .before in
+    let s = v .before .before .before .before in
+    text-adds _ _ (head-bound _ (omega arith)) (omega arith) (v .room .ensures .0) (omega arith) (s .pre .1 .inside) (u .put-head .ensures)
+
+pub collect-head-spec : {M : Type 1} → statement M
+collect-head-spec =
+    tie.close (tie.spec add-room room-requires put-head-requires same-length returns)

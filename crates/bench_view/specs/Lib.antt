@@ -1,0 +1,4 @@
+pub mod Views
+pub mod Adding
+pub mod Places
+pub mod Steps

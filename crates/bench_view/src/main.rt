@@ -1,0 +1,400 @@
+// Shows each read of standard input at the bench: width by width the groups, which the replay of the read's log alone gives, the moves and
+// the list's lines, and a last line that says whether list and groups agree at every width. The program compares them; its contracts promise
+// every byte that is collected for a read, and that the last line says that they agree.
+ghost use mathlib.Core.Path.{_≡_};
+ghost use mathlib.Core.List.{_∷_, []};
+ghost use Prim.Native.Nat.{ℕ, _+_, _*_, _≤_, _<_};
+ghost use lib.ListN.{length, take};
+ghost use Rattle.words.specs.Range.{gather};
+ghost use Rattle.words.specs.Reads.{most};
+ghost use Rattle.words.specs.Rows.{rows};
+ghost use Rattle.words.specs.Lists.{lineSize, lines};
+ghost use Rattle.words.specs.Answers.{success, listedSays, loggedSays};
+ghost use Rattle.words.specs.Calls.{listAnswer};
+ghost use Rattle.texts.specs.Texts.{refusedText};
+ghost use Rattle.streams.specs.Cuts.{Within};
+ghost use Rattle.views.specs.Views.{widthText, headText, verdictText};
+ghost use Rattle.bench_view.specs.Views.{widthView, widthsOf, readView, viewText, firstDiffer};
+ghost use Rattle.bench_view.specs.Adding.{Ready, Adds};
+ghost use Rattle.bench_view.specs.Places.{Brief, movesFrom, linesFrom, Shown, Own, Reached};
+ghost use Rattle.bench_view.specs.Steps.{Bench, Viewed, Stepped};
+use edges::MOST;
+use streams::Out;
+use streams::Source;
+use words::Listed;
+use words::Logged;
+
+// how many numbers a move or a line takes
+const ROW: usize = 3;
+
+// collects the first line of a read's view
+fn collect_head(read: &[u8], buf: &mut [u8], start: Out) -> Out
+    requires { ⌜ (length (now read) ≤ most) × Ready (now buf) (start .used) ⌝ }
+    ensures { λ r. ⌜ Adds (now (buf .entry)) (start .used) (headText (now (read .entry))) (now (buf .exit)) (r .used) ⌝ }
+{
+    let o = streams::room(buf, read.len() + 27, start);
+    let at = o.used;
+    let end = views::put_head(buf, at, read);
+    Out {
+        used: end,
+        ok: o.ok,
+    }
+}
+
+// collects the text of one width
+fn collect_width(
+    w: usize,
+    table: &[u16],
+    moves: &[u16],
+    lines: &[u16],
+    buf: &mut [u8],
+    start: Out,
+) -> Out
+    requires { ⌜ Brief (now table) (now moves) (now lines) × Ready (now buf) (start .used) ⌝ }
+    ensures { λ r. ⌜ Adds (now (buf .entry)) (start .used) (widthText w (now (table .entry)) (now (moves .entry)) (now (lines .entry)))
+        (now (buf .exit)) (r .used) ⌝ }
+{
+    let need = 27 * table.len() + 9 * moves.len() + 9 * lines.len() + 64;
+    let o = streams::room(buf, need, start);
+    let at = o.used;
+    let end = views::put_width(buf, at, w, table, moves, lines);
+    Out {
+        used: end,
+        ok: o.ok,
+    }
+}
+
+// collects the last line, by the first width at which list and groups differ, 0 for none
+fn collect_verdict(w: usize, buf: &mut [u8], start: Out) -> Out
+    requires { ⌜ Ready (now buf) (start .used) ⌝ }
+    ensures { λ r. ⌜ Adds (now (buf .entry)) (start .used) (verdictText w) (now (buf .exit)) (r .used) ⌝ }
+{
+    let o = streams::room(buf, 64, start);
+    let at = o.used;
+    let end = views::put_verdict(buf, at, w);
+    Out {
+        used: end,
+        ok: o.ok,
+    }
+}
+
+// collects a refusal
+fn collect_refusal(number: u64, value: u64, buf: &mut [u8], start: Out) -> Out
+    requires { ⌜ (number < 10) × Ready (now buf) (start .used) ⌝ }
+    ensures { λ r. ⌜ Adds (now (buf .entry)) (start .used) (refusedText number (value ∷ [])) (now (buf .exit)) (r .used) ⌝ }
+{
+    let o = streams::room(buf, 64, start);
+    let at = o.used;
+    let end = texts::put_refused(buf, at, number, value);
+    Out {
+        used: end,
+        ok: o.ok,
+    }
+}
+
+// the first width at which list and groups differ, after one width more; 0 while they agree
+fn first_differ(differ: usize, agree: bool, w: usize) -> usize
+    ensures { λ r. ⌜ r ≡ firstDiffer differ agree w ⌝ }
+{
+    if differ != 0 {
+        return differ;
+    }
+    if agree { differ } else { w }
+}
+
+// the place reached between two widths: the moves and lines passed, the first width at which list and groups differ, and what is collected
+struct Place {
+    moved: usize,
+    listed: usize,
+    differ: usize,
+    out: Out,
+}
+
+// shows one width, from its table, and compares
+fn show_table(table: &[u16], log: &[u16], list: &[u16], w: usize, buf: &mut [u8], p: Place) -> Place
+    requires { ⌜ Brief (now table) (movesFrom (now log) w p) (linesFrom (now list) w p) × Ready (now buf) (p .out .used)
+        × (p .moved ≤ rows lineSize (now log)) × (p .listed ≤ rows lineSize (now list)) ⌝ }
+    ensures { λ r. ⌜ Shown (now (table .entry)) (now (log .entry)) (now (list .entry)) w (now (buf .entry)) p (now (buf .exit)) r ⌝ }
+{
+    let from = p.moved;
+    let start = p.listed;
+    let o = p.out;
+    let moved = agrees::part_end(log, 0, w, from);
+    let listed = agrees::part_end(list, 1, w, start);
+    let moves = &log[ROW * from..ROW * moved];
+    let lines = &list[ROW * start..ROW * listed];
+    let after = collect_width(w, table, moves, lines, buf, o);
+    let agree = agrees::agree_at(table, w, lines);
+    Place {
+        moved,
+        listed,
+        differ: first_differ(p.differ, agree, w),
+        out: after,
+    }
+}
+
+// shows one width of a read: its groups come from the replay of the log
+fn show_width(
+    read: &[u8],
+    log: &[u16],
+    list: &[u16],
+    w: usize,
+    table: &mut [u16],
+    buf: &mut [u8],
+    p: Place,
+) -> Place
+    requires { ⌜ Own (now read) (now log) (now list) × Reached (now read) w p × (w ≤ widthsOf (length (now read)))
+        × (most ≤ length (now table)) × Ready (now buf) (p .out .used) ⌝ }
+    ensures { λ r. ⌜ Reached (now (read .entry)) (w + 1) r
+        × Adds (now (buf .entry)) (p .out .used) (widthView (now (read .entry)) w) (now (buf .exit)) (r .out .used) ⌝ }
+{
+    let n = read.len();
+    lister::replay(read, log, w as u32, table);
+    show_table(&table[..n], log, list, w, buf, p)
+}
+
+// how many widths are shown of a read of n bytes
+fn widths(n: usize) -> usize
+    ensures { λ r. ⌜ r ≡ widthsOf n ⌝ }
+{
+    if n == 1 { 1 } else { n / 2 }
+}
+
+// shows every width of a read
+fn show_widths(
+    read: &[u8],
+    log: &[u16],
+    list: &[u16],
+    table: &mut [u16],
+    buf: &mut [u8],
+    start: Out,
+) -> Place
+    requires { ⌜ Own (now read) (now log) (now list) × (most ≤ length (now table)) × Ready (now buf) (start .used) ⌝ }
+    ensures { λ r. ⌜ Reached (now (read .entry)) (widthsOf (length (now (read .entry))) + 1) r
+        × Adds (now (buf .entry)) (start .used) (gather (widthView (now (read .entry))) (widthsOf (length (now (read .entry)))) 1)
+        (now (buf .exit)) (r .out .used) ⌝ }
+{
+    let top = widths(read.len());
+    let mut p = Place {
+        moved: 0,
+        listed: 0,
+        differ: 0,
+        out: start,
+    };
+    let mut w = 0;
+    while w < top {
+        p = show_width(read, log, list, w + 1, table, buf, p);
+        w += 1;
+    }
+    p
+}
+
+// the moves that a log call wrote
+fn moves_of(found: Logged) -> usize
+    ensures { λ r. ⌜ ((count : ℕ) → loggedSays found ≡ success count → r ≡ count) ⌝ }
+{
+    match found {
+        Logged::Moves(count) => count,
+        Logged::TooLong(n) => 0,
+        Logged::NoRoom(n) => 0,
+    }
+}
+
+// shows a read whose list of `count` lines is made
+fn show_read(
+    read: &[u8],
+    list: &[u16],
+    count: usize,
+    log: &mut [u16],
+    table: &mut [u16],
+    buf: &mut [u8],
+    start: Out,
+) -> Out
+    requires { ⌜ (length (now read) ≤ most) × (lineSize * count ≤ length (now list)) × (take (lineSize * count) (now list) ≡ lines (now read) 0)
+        × (29970 ≤ length (now log)) × (most ≤ length (now table)) × Ready (now buf) (start .used) ⌝ }
+    ensures { λ r. ⌜ Adds (now (buf .entry)) (start .used) (readView (now (read .entry))) (now (buf .exit)) (r .used) ⌝ }
+{
+    let moves = ROW * moves_of(lister::log(read, log));
+    let size = ROW * count;
+    let o = collect_head(read, buf, start);
+    let p = show_widths(read, &log[..moves], &list[..size], table, buf, o);
+    let agree = p.listed == count;
+    let out = p.out;
+    collect_verdict(
+        first_differ(p.differ, agree, widths(read.len()) + 1),
+        buf,
+        out,
+    )
+}
+
+// an answer in document 01's numbers: its number, 0 for success, and what it returns
+struct Told {
+    number: u64,
+    value: usize,
+}
+
+// what the list call answered
+fn tell(found: Listed) -> Told
+    ensures { λ r. ⌜ (r .number < 10) × (listedSays found ≡ record { number = r .number; values = r .value ∷ [] }) ⌝ }
+{
+    match found {
+        Listed::Lines(count) => Told {
+            number: 0,
+            value: count,
+        },
+        Listed::TooLong(n) => Told {
+            number: 1,
+            value: n,
+        },
+        Listed::BadMode(mode) => Told {
+            number: 2,
+            value: mode as usize,
+        },
+        Listed::NoRoom(count) => Told {
+            number: 3,
+            value: count,
+        },
+    }
+}
+
+// shows a read, or says why its list was refused
+fn show(
+    read: &[u8],
+    list: &mut [u16],
+    log: &mut [u16],
+    table: &mut [u16],
+    buf: &mut [u8],
+    start: Out,
+) -> Out
+    requires { ⌜ (length (now list) ≡ 30000) × (29970 ≤ length (now log)) × (most ≤ length (now table)) × Ready (now buf) (start .used) ⌝ }
+    ensures { λ r. ⌜ Adds (now (buf .entry)) (start .used) (viewText (listAnswer (now (read .entry)) 0 (now (list .entry))) (now (read .entry)))
+        (now (buf .exit)) (r .used) ⌝ }
+{
+    let a = tell(lister::list(read, 0, list));
+    if a.number == 0 {
+        return show_read(read, list, a.value, log, table, buf, start);
+    }
+    collect_refusal(a.number, a.value as u64, buf, start)
+}
+
+// shows a line of `len` bytes: the bytes that are kept of a line over the limit are not the read, so it is refused here
+fn answer(
+    line: &[u8],
+    len: usize,
+    list: &mut [u16],
+    log: &mut [u16],
+    table: &mut [u16],
+    buf: &mut [u8],
+    start: Out,
+) -> Out
+    requires { ⌜ Bench (now line) (now list) (now log) (now table) × Ready (now buf) (start .used) ⌝ }
+    ensures { λ r. ⌜ Viewed (now (line .entry)) len (now (list .entry)) (now (buf .entry)) (start .used) (now (buf .exit)) (r .used) ⌝ }
+{
+    if MOST < len {
+        return collect_refusal(1, len as u64, buf, start);
+    }
+    show(&line[..len], list, log, table, buf, start)
+}
+
+// where the program stands between two lines: `more` is false once the input has ended, or a read or a write failed
+struct State {
+    more: bool,
+    source: Source,
+    out: Out,
+}
+
+// the next line, answered
+fn step(
+    input: &mut [u8],
+    line: &mut [u8],
+    list: &mut [u16],
+    log: &mut [u16],
+    table: &mut [u16],
+    buf: &mut [u8],
+    s: State,
+) -> State
+    requires { ⌜ Within (now input) (s .source) × Bench (now line) (now list) (now log) (now table) × Ready (now buf) (s .out .used) ⌝ }
+    ensures { λ r. ⌜ Stepped (now (input .entry)) (now (list .entry)) (now (buf .entry)) s (now (line .exit)) (now (buf .exit)) r ⌝ }
+{
+    let source = s.source;
+    let o = s.out;
+    let l = streams::next_line(input, line, source);
+    let next = l.source;
+    if l.found {
+        let after = answer(line, l.len, list, log, table, buf, o);
+        return State {
+            more: after.ok,
+            source: next,
+            out: after,
+        };
+    }
+    State {
+        more: false,
+        source: next,
+        out: o,
+    }
+}
+
+// all lines. Nothing says that the input ends, so the loop counts its turns down, from a number that no run uses up.
+fn all(
+    input: &mut [u8],
+    line: &mut [u8],
+    list: &mut [u16],
+    log: &mut [u16],
+    table: &mut [u16],
+    buf: &mut [u8],
+) -> Out
+    requires { ⌜ Bench (now line) (now list) (now log) (now table) × Ready (now buf) 0 ⌝ }
+    ensures { λ r. ⌜ r .used ≤ length (now (buf .entry)) ⌝ }
+{
+    let mut s = State {
+        more: true,
+        source: Source {
+            from: 0,
+            end: 0,
+            more: true,
+        },
+        out: Out { used: 0, ok: true },
+    };
+    let mut turns = u64::MAX;
+    while turns > 0 {
+        s = step(input, line, list, log, table, buf, s);
+        if !s.more {
+            return s.out;
+        }
+        turns -= 1;
+    }
+    s.out
+}
+
+// All lines, and then all that is still collected is written. The list has room for 10,000 lines.
+fn run(
+    input: &mut [u8],
+    line: &mut [u8],
+    list: &mut [u16],
+    log: &mut [u16],
+    table: &mut [u16],
+    buf: &mut [u8],
+)
+    requires { ⌜ Bench (now line) (now list) (now log) (now table) × Ready (now buf) 0 ⌝ }
+{
+    let o = all(input, line, list, log, table, buf);
+    streams::flush(buf, o);
+}
+
+fn main() {
+    let mut input = [0u8; 65536];
+    let mut line = [0u8; 1001];
+    let mut list = [0u16; 30000];
+    let mut log = [0u16; 29970];
+    let mut table = [0u16; 1000];
+    let mut buf = [0u8; 262144];
+    run(
+        &mut input,
+        &mut line,
+        &mut list,
+        &mut log,
+        &mut table,
+        &mut buf,
+    );
+}

@@ -1,0 +1,6 @@
+pub mod Pieces
+pub mod Counted
+pub mod Cells
+pub mod Shapes
+pub mod Rows
+pub mod Bounds
