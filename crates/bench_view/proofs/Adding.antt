@@ -9,7 +9,7 @@ use lib.ListN.{length, length-append, take, drop}
 use lib.Seq.{length-take-le, take-at}
 use Rattle.words.specs.Range.{gather}
 use Rattle.words.proofs.Tests.{lt-or-ge}
-use Rattle.words.proofs.Ranges.{append-nil, gather-more}
+use Rattle.words.proofs.Ranges.{append-nil, gather-next}
 use Rattle.texts.specs.Puts.{placed, Room, Puts}
 use Rattle.texts.proofs.Putting.{puts-length}
 use Rattle.streams.specs.Places.{nextPlace}
@@ -92,6 +92,4 @@ adds-join {buf} {a} {mid} {b} {new} {u} {v} {w} p q =
 pub adds-next : (f : ℕ → List ℕ) (d : ℕ) {buf mid new : List ℕ} {u v w : ℕ} → Adds buf u (gather f d 1) mid v → Adds mid v (f (d + 1)) new w
     → Adds buf u (gather f (d + 1) 1) new w
 adds-next f d {buf} {mid} {new} {u} {v} {w} p q =
-    let a : gather f (d + 1) 1 ≡ gather f d 1 ++ f (d + 1) =
-    ap (λ (n : ℕ). gather f n 1) (omega arith) ∙ gather-more f d 1 ∙ ap (λ (n : ℕ). gather f d 1 ++ f n) (omega arith) in
-    rw a (adds-join p q)
+    rw (gather-next f d) (adds-join p q)

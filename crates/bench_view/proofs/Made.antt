@@ -21,7 +21,7 @@ use Rattle.words.proofs.Rows.{rows-times}
 use Rattle.words.proofs.Lists.{lines-full}
 use Rattle.words.proofs.Lines.{lines-top}
 use Rattle.words.proofs.Room.{log-length}
-use Rattle.logs.proofs.Powers.{room-few}
+use Rattle.words.proofs.Sizes.{room-few}
 use Rattle.lister.proofs.Answered.{front, list-decided, log-decided}
 use Rattle.texts.specs.Texts.{refusedText}
 use Rattle.bench_view.specs.Views.{widthsOf, readView, viewText, firstDiffer}

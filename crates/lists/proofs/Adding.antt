@@ -6,9 +6,8 @@ use native.Mathlib.Omega.{arith}
 use lib.ListN.{length, drop, length-append, length-drop}
 use lib.Seq.{sets, sets-eq, take-append-seam, drop-append-add, drop-drop}
 use Rattle.words.specs.Range.{gather}
-use Rattle.words.proofs.Ranges.{append-nil}
+use Rattle.words.proofs.Ranges.{append-nil, gather-next}
 use Rattle.lists.specs.Listing.{Listing, Adds}
-use Rattle.lists.proofs.Words.{gather-next}
 
 pub adds-none : (k : ℕ) (m out : List ℕ) → m ≡ [] → Adds k k m out out
 adds-none k m out e old l L = subst (λ (v : List ℕ). Listing old v k out) (sym (ap (λ (v : List ℕ). l ++ v) e ∙ append-nil l)) L

@@ -1,4 +1,3 @@
-pub mod Words
 pub mod Chains
 pub mod Starts
 pub mod Adding

@@ -18,10 +18,10 @@ use Rattle.refine.proofs.Links.{gap-nearest}
 use Rattle.partition.specs.Held.{Held, Advanced, Stands}
 use Rattle.partition.proofs.Turn.{held-long}
 use Rattle.partition.proofs.OfRead.{stands-advance, still-advance, stands-gap}
+use Rattle.words.proofs.Ranges.{gather-next}
 use Rattle.lists.specs.Periods.{linesIn, Near, Gapped}
 use Rattle.lists.specs.Listing.{Listing, Adds}
 use Rattle.lists.specs.Widths.{Going}
-use Rattle.lists.proofs.Words.{gather-next}
 use Rattle.lists.proofs.Starts.{lines-in}
 
 -- no line yet

@@ -16,7 +16,7 @@ use Rattle.slots.proofs.Laws.{view-at}
 use Rattle.refine.specs.Refine.{queue}
 use Rattle.refine.specs.Phases.{Ready}
 use Rattle.logs.specs.Written.{stored, Inside, moveFrom, movesTo}
-use Rattle.logs.proofs.QueueMoves.{moves-queue-places}
+use Rattle.refine.proofs.QueueMoves.{moves-queue-places}
 
 pub stored-append : (l u v : List ℕ) (i : ℕ) → stored l i (u ++ v) ≡ stored (stored l i u) (i + length u) v
 unfolding stored

@@ -15,7 +15,7 @@ use Rattle.slots.specs.Slots.{view}
 use Rattle.partition.specs.Held.{Advanced, Stands}
 use Rattle.partition.proofs.OfRead.{stands-advance, moves-advance, still-advance}
 use Rattle.logs.specs.Written.{stored, below, Mid, Written}
-use Rattle.logs.proofs.Powers.{room-few}
+use Rattle.words.proofs.Sizes.{room-few}
 use Rattle.logs.proofs.Stores.{stored-append}
 
 module _ (x : List ℕ) where

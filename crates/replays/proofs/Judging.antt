@@ -20,7 +20,7 @@ use Rattle.words.proofs.Ranges.{found, Found, every-at, every-of}
 use Rattle.slots.specs.Slots.{put}
 use Rattle.slots.proofs.Laws.{put-length, put-same, put-other}
 use Rattle.replays.specs.Judge.{inRange, follows, free, Ordered, Seen}
-use Rattle.replays.proofs.Zeros.{zeros-clean}
+use Rattle.refine.proofs.Zeros.{zeros-clean}
 use Rattle.replays.proofs.Order.{before-ordered, ordered-width}
 
 pub within-is : (a b v : ℕ) → within a b v ≡ true → (a ≤ v) × (v ≤ b)

@@ -1,8 +1,5 @@
-pub mod Zeros
 pub mod Order
 pub mod Judging
-pub mod Under
-pub mod Rule
 pub mod Orderly
 pub mod Marked
 pub mod Naming

@@ -18,7 +18,7 @@ use Rattle.slots.specs.Slots.{put}
 use Rattle.slots.proofs.Laws.{put-length, put-same, put-other}
 use Rattle.refine.specs.Phases.{Clean}
 use Rattle.replays.specs.Split.{Formed, Splits, isAt, Marking, Marks, Run}
-use Rattle.replays.proofs.Under.{Traced, under-traced}
+use Rattle.words.proofs.Under.{Traced, under-traced}
 use Rattle.replays.proofs.Orderly.{entry-ranged, entries-ordered, widths-rise, entry-once, under-entry}
 
 pub at-is : (l : List ℕ) (q v : ℕ) → isAt l q v ≡ true → (q < rows moveSize l) × (widthOf l q ≡ v)

@@ -20,7 +20,7 @@ use Rattle.words.proofs.Leaders.{Equivalence, leader-low, leader-high, leader-j
 use Rattle.slots.specs.Slots.{put}
 use Rattle.slots.proofs.Laws.{put-length, put-same, put-other}
 use Rattle.replays.specs.Split.{joint, split, headOf, Nameable, Named, Head, Mid}
-use Rattle.replays.proofs.Rule.{at-ext}
+use Rattle.words.proofs.Rule.{at-ext}
 
 module _ (t mark : List ℕ) where
   joint-is : (i j : ℕ) → joint t mark i j ≡ true → (at t i ≡ at t j) × (at mark i ≡ at mark j)

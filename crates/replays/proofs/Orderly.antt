@@ -15,7 +15,7 @@ use Rattle.replays.specs.Judge.{Ordered}
 use Rattle.replays.specs.Split.{Formed}
 use Rattle.replays.proofs.Order.{ordered-join, ordered-width}
 use Rattle.replays.proofs.Judging.{Ranged, ranged, good-range, good-follows, good-free, follows-ordered}
-use Rattle.replays.proofs.Under.{under-traced}
+use Rattle.words.proofs.Under.{under-traced}
 
 module _ (n : ℕ) (l : List ℕ) (F : Formed n l) where
   pub entry-ranged : (k : ℕ) → k < rows moveSize l → Ranged n l k

@@ -1,6 +1,7 @@
 pub mod Tests
 pub mod Ranges
 pub mod Rows
+pub mod Under
 pub mod Sums
 pub mod Leaders
 pub mod Stretches
@@ -9,7 +10,9 @@ pub mod Small
 pub mod Split
 pub mod Moves
 pub mod Replay
+pub mod Rule
 pub mod Room
+pub mod Sizes
 pub mod Logs
 pub mod Periods
 pub mod Repeats

@@ -103,6 +103,13 @@ unfolding gather
 gather-more f zero j = append-nil (f j) ∙ ap f (omega arith)
 gather-more f (suc d) j = ap (λ (l : List ℕ). f j ++ l) (gather-more f d (suc j) ∙ ap (λ (v : ℕ). gather f d (suc j) ++ f v) (omega arith)) ∙ sym (append-assoc (f j) (gather f d (suc j)) (f (j + suc d)))
 
+-- the same of a range from 1 on
+pub gather-next : (f : ℕ → List ℕ) (d : ℕ) → gather f (d + 1) 1 ≡ gather f d 1 ++ f (d + 1)
+gather-next f d =
+    let a : d + 1 ≡ suc d = omega arith in
+    let b : 1 + d ≡ d + 1 = omega arith in
+    ap (λ (v : ℕ). gather f v 1) a ∙ gather-more f d 1 ∙ ap (λ (v : ℕ). gather f d 1 ++ f v) b
+
 pub length-cells : (f : ℕ → ℕ) (d j : ℕ) → length (cells f d j) ≡ d
 unfolding cells gather
 length-cells f zero j = refl

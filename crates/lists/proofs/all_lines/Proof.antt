@@ -11,7 +11,7 @@ use Rattle.words.specs.Moves.{topOf}
 use Rattle.partition.specs.Held.{Stands}
 use Rattle.lists.specs.Listing.{Listing}
 use Rattle.lists.specs.Widths.{Going}
-use Rattle.lists.proofs.Words.{top-some, top-few}
+use Rattle.words.proofs.Sizes.{top-some, top-few}
 use Rattle.lists.proofs.Onward.{held-near, first-period, going-ends, going-stops, going-on}
 use Rattle.lists.proofs.all_lines.Statement.{statement}
 use Rattle.lists.proofs.all_lines.Tie as tie

@@ -6,7 +6,7 @@ use native.Mathlib.Omega.{arith}
 use native.Mathlib.Nat.{pow-suc}
 use native.Mathlib.Numerals.{add-one}
 use borrow.Author.Needs.{needs}
-use Rattle.logs.proofs.Powers.{power-log}
+use Rattle.words.proofs.Sizes.{power-log}
 use Rattle.logs.proofs.digits.Statement.{statement}
 use Rattle.logs.proofs.digits.Tie as tie
 

@@ -3,7 +3,7 @@ use Prim.Native.Nat.{_*_, _≤_}
 use mathlib.Core.Path.{_≡_}
 use native.Mathlib.Omega.{arith}
 use Rattle.words.specs.Moves.{M}
-use Rattle.logs.proofs.Powers.{room-few}
+use Rattle.words.proofs.Sizes.{room-few}
 use borrow.Author.Needs.{needs}
 use Rattle.logs.proofs.room.Statement.{statement}
 use Rattle.logs.proofs.room.Tie as tie

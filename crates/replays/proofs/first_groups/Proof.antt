@@ -1,6 +1,6 @@
 -- `replays::first_groups` meets its contract: new arrays hold nothing. Assumes nothing.
 use borrow.Author.Needs.{needs}
-use Rattle.replays.proofs.Zeros.{zeros-clean}
+use Rattle.refine.proofs.Zeros.{zeros-clean}
 use Rattle.replays.proofs.first_groups.Statement.{statement}
 use Rattle.replays.proofs.first_groups.Tie as tie
 

@@ -8,7 +8,7 @@ use Rattle.words.specs.Replay.{replay}
 use Rattle.slots.specs.Slots.{view}
 use Rattle.replays.specs.Split.{Splits}
 use Rattle.replays.proofs.Marked.{splits-start}
-use Rattle.replays.proofs.Rule.{replay-start, replay-next}
+use Rattle.words.proofs.Rule.{replay-start, replay-next}
 use Rattle.replays.proofs.Widths.{replay-groups}
 use Rattle.replays.proofs.replay_all.Statement.{statement}
 use Rattle.replays.proofs.replay_all.Tie as tie

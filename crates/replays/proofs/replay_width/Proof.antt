@@ -3,9 +3,9 @@ use mathlib.Core.Path.{sym, _∙_}
 use borrow.Author.Needs.{needs}
 use borrow.Author.Tests.{not-true}
 use Rattle.replays.proofs.Marked.{none-under, none-splits, marks-run}
-use Rattle.replays.proofs.Rule.{after-still}
+use Rattle.words.proofs.Rule.{after-still}
 use Rattle.replays.proofs.Widths.{split-after}
-use Rattle.replays.proofs.Zeros.{zeros-clean}
+use Rattle.refine.proofs.Zeros.{zeros-clean}
 use Rattle.replays.proofs.replay_width.Statement.{statement}
 use Rattle.replays.proofs.replay_width.Tie as tie
 

@@ -1,5 +1,7 @@
 -- `sorunggyeo::sorunggyeo_next` meets its contract: that of the call, in numbers. Assumes nothing.
+use mathlib.Core.Path.{ap, _∙_}
 use borrow.Author.Needs.{needs}
+use Rattle.sorunggyeo.specs.Plain.{plainMove}
 use Rattle.sorunggyeo.proofs.sorunggyeo_next.Statement.{statement}
 use Rattle.sorunggyeo.proofs.sorunggyeo_next.Tie as tie
 
@@ -10,7 +12,7 @@ taken-requires : tie.Need-taken-requires
 taken-requires c κs = search needs
 
 returns : tie.Need-returns
-returns c = cc
+returns c = c .taken .ensures ∙ ap plainMove (c .before .take-at .ensures)
 
 pub sorunggyeo-next-spec : {M : Type 1} → statement M
 sorunggyeo-next-spec = tie.close (tie.spec take-at-requires taken-requires returns)

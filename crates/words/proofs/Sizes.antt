@@ -1,13 +1,13 @@
--- The binary digits of a number, counted by doubling: the first power of 2 above it tells its logarithm. Assumes nothing.
+-- The logarithm of a length by doubling, and how large it, the room of a log and top are for a read that is not too long. Assumes nothing.
 use Prim.Native.Nat.{ℕ, suc, _+_, _-_, _*_, _^_, _≤_, _<_}
 use mathlib.Core.Path.{_≡_}
 use mathlib.Core.Logic.{_⊎_, inl, inr}
 use native.Mathlib.Omega.{arith}
 use native.Mathlib.Nat.{pow-suc, mul-le-mul}
 use lib.Pow.{pow-mono}
-use Rattle.words.specs.Moves.{log2, M}
+use Rattle.words.specs.Moves.{topOf, log2, M}
 use Rattle.words.proofs.Tests.{lt-or-ge}
 use Rattle.words.proofs.Room.{log2-low, log2-high}
 
 -- a power of 2 above n and at most twice n is the one after the logarithm
 pub power-log : (n k : ℕ) → 1 ≤ n → n < 2 ^ k → 2 ^ k ≤ 2 * n → k ≡ 1 + log2 n
@@ -35,3 +35,12 @@ room-few n h l =
     let a : n - 1 ≤ 999 = omega arith in
     let b : 1 + log2 n ≤ 10 = omega (arith, log2-few n h l) in
     mul-le-mul a b
+
+-- and at most 500 periods
+pub top-some : (n : ℕ) → 1 ≤ topOf n
+unfolding topOf
+top-some n = omega arith
+
+pub top-few : (n : ℕ) → n ≤ 1000 → topOf n ≤ 500
+unfolding topOf
+top-few n h = omega arith
