@@ -9,6 +9,10 @@
 #include <stddef.h>
 #include <stdint.h>
 
+/* Raised by one whenever a struct, a call's arguments or the meaning of a number changes. A program that tests it (#if) when it is compiled
+   tells this header from one that it was not written for. Version 1 is the header before this number, whose answers had one value. */
+#define SORUNGGYEO_VERSION 2
+
 #ifdef __cplusplus
 extern "C" {
 #endif
@@ -24,7 +28,7 @@ enum {
     SORUNGGYEO_OK = 0,
     SORUNGGYEO_TOO_LONG = 1,      /* the read has more than 1,000 bytes; the value is its length; nothing is changed */
     SORUNGGYEO_BAD_NUMBER = 2,    /* the mode or width is none; the value is that number; nothing is changed */
-    SORUNGGYEO_NO_ROOM = 3,       /* the list has room for fewer lines than there are; the value is the lines; the whole list is 0 */
+    SORUNGGYEO_LIST_FULL = 3,     /* the list has room for fewer lines than there are; the value is the lines; the whole list is 0 */
     SORUNGGYEO_TOO_SHORT = 4,     /* the log or table is too short; the value is the numbers needed; nothing is changed */
     SORUNGGYEO_BAD_ENTRY = 5      /* the log is ill-formed; the value is the index of its first bad entry; nothing is changed */
 };
@@ -33,6 +37,7 @@ enum {
 typedef struct {
     uint32_t number;
     uint64_t value;
+    uint64_t more; /* a second value; 0 where there is none, so in every answer of the calls below */
 } sorunggyeo_answer;
 
 /* a part of a read: `count` bytes from read + from on */

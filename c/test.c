@@ -2,8 +2,8 @@
      test lists|leading|logs < READS           every read's list, leading repeats, or log
      test tables TABLES < READS                every read's tables at the widths that the file TABLES has
      test calls                                what crates/run_calls prints
-   Besides, in `lists` each line is claimed and its motif taken, in `logs` the log is walked by the reader, and in `tables` the replay of the
-   read's own log must give the same table; what fails prints a line that no stored output has. */
+   Besides, no answer has a second value, in `lists` each line is claimed and its motif taken, in `logs` the log is walked by the reader, and in
+   `tables` the replay of the read's own log must give the same table; what fails prints a line that no stored output has. */
 #include "sorunggyeo.h"
 #include <stdio.h>
 #include <stdlib.h>
@@ -13,9 +13,18 @@ enum { LINES = 10000, WIDE = 70000 };
 static uint8_t read[WIDE];
 static uint16_t list[LINES * SORUNGGYEO_LINE], log_[SORUNGGYEO_LOG_MOST], table[SORUNGGYEO_MOST], other[SORUNGGYEO_MOST];
 
+_Static_assert(SORUNGGYEO_VERSION == 2 && sizeof(sorunggyeo_answer) == 24, "the header that this program was written for");
+
 static void expect(int ok, const char *what)
 {
     if (!ok) printf("wrong: %s\n", what);
+}
+
+/* an answer of one value, as all of today's are */
+static sorunggyeo_answer one(sorunggyeo_answer a)
+{
+    expect(a.more == 0, "there is no second value");
+    return a;
 }
 
 /* the next line of standard input without its newline; 0 once there is none */
@@ -39,14 +48,14 @@ static void numbers(const uint16_t *a, size_t n)
 static void claim_line(size_t n, uint32_t i, uint32_t p, uint32_t e)
 {
     sorunggyeo_part u = sorunggyeo_motif(read, n, i, p, e);
-    expect(sorunggyeo_claim(read, n, i, p, e).value == 1, "a line of the list is a true claim");
-    expect(sorunggyeo_claim(read, n, i, p, e + 1).value == 0, "with a copy more it is not");
+    expect(one(sorunggyeo_claim(read, n, i, p, e)).value == 1, "a line of the list is a true claim");
+    expect(one(sorunggyeo_claim(read, n, i, p, e + 1)).value == 0, "with a copy more it is not");
     expect(u.from == i - 1 && u.count == p, "its motif is that part of the read");
 }
 
 static void print_list(size_t n, uint32_t mode)
 {
-    sorunggyeo_answer a = sorunggyeo_list(read, n, mode, list, LINES * SORUNGGYEO_LINE);
+    sorunggyeo_answer a = one(sorunggyeo_list(read, n, mode, list, LINES * SORUNGGYEO_LINE));
     if (a.number != SORUNGGYEO_OK) {
         printf("refused %u %llu\n", a.number, (unsigned long long)a.value);
         return;
@@ -62,8 +71,8 @@ static void print_list(size_t n, uint32_t mode)
 /* one line for the moves of a width under a name */
 static void print_log(size_t n)
 {
-    size_t needed = sorunggyeo_log(read, n, log_, 0).value;
-    sorunggyeo_answer a = sorunggyeo_log(read, n, log_, SORUNGGYEO_LOG_MOST);
+    size_t needed = one(sorunggyeo_log(read, n, log_, 0)).value;
+    sorunggyeo_answer a = one(sorunggyeo_log(read, n, log_, SORUNGGYEO_LOG_MOST));
     unsigned width = 0, name = 0;
     size_t at = 0;
     if (n < 2) needed = 0;
@@ -80,12 +89,12 @@ static void print_log(size_t n)
 
 static void print_table(size_t n, unsigned width)
 {
-    sorunggyeo_answer a = sorunggyeo_group_table(read, n, width, table, SORUNGGYEO_MOST);
+    sorunggyeo_answer a = one(sorunggyeo_group_table(read, n, width, table, SORUNGGYEO_MOST));
     printf("%u:", width);
     numbers(table, a.value);
     if (width > 1 && width > n / 2) return;
-    a = sorunggyeo_log(read, n, log_, SORUNGGYEO_LOG_MOST);
-    a = sorunggyeo_replay(read, n, log_, SORUNGGYEO_MOVE * a.value, width, other, SORUNGGYEO_MOST);
+    a = one(sorunggyeo_log(read, n, log_, SORUNGGYEO_LOG_MOST));
+    a = one(sorunggyeo_replay(read, n, log_, SORUNGGYEO_MOVE * a.value, width, other, SORUNGGYEO_MOST));
     expect(a.number == SORUNGGYEO_OK && !memcmp(table, other, n * sizeof *table), "the replay gives the table");
 }
 
@@ -118,7 +127,7 @@ static void begin(const char *call, size_t n)
 
 static void answered(sorunggyeo_answer a)
 {
-    printf("answer %u %llu\n", a.number, (unsigned long long)a.value);
+    printf("answer %u %llu\n", a.number, (unsigned long long)one(a).value);
 }
 
 static void end(sorunggyeo_answer a, size_t n)

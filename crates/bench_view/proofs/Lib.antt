@@ -1,4 +1,5 @@
-pub mod Adding
+pub mod Collecting
+pub mod Lengths
 pub mod Reaching
 pub mod Made
 pub mod Stepping

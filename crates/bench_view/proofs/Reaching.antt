@@ -3,44 +3,49 @@
 use Prim.Native.Nat.{ℕ, zero, suc, _+_, _-_, _*_, _/_, _≤_, _<_}
 use mathlib.Core.Path.{_≡_, refl, sym, ap, _∙_}
 use mathlib.Core.Logic.{⊎-elim, _≢_}
-use mathlib.Core.Bool.{Bool, true, false, _&&_, cond}
-use mathlib.Core.List.{List, [], _∷_}
+use mathlib.Core.Bool.{Bool, true, false, cond}
+use mathlib.Core.List.{List, []}
 use native.Mathlib.Omega.{arith}
+use native.Mathlib.Nat.{mul-le-mul-left, div-le-of-le-mul}
 use lib.ListN.{length, take, drop}
 use lib.Seq.{take-at}
-use lib.Dec.{leb, ltb, eqb}
+use lib.Dec.{ltb, eqb}
 use borrow.Author.Tests.{lt-ltb, le-ltb, eq-eqb, ne-eqb}
 use Rattle.words.specs.Range.{sum, gather}
 use Rattle.words.specs.Rows.{rows}
 use Rattle.words.specs.Reads.{most, at}
-use Rattle.words.specs.Repeats.{primitive, copies}
+use Rattle.words.specs.Repeats.{copies}
 use Rattle.words.specs.Groups.{table, smalls}
-use Rattle.words.specs.Lists.{lineSize, lineOf, wanted, line, linesAt}
-use Rattle.words.specs.Moves.{topOf, top, moveCount, moves, log}
+use Rattle.words.specs.ByPeriod.{rowIf}
+use Rattle.words.specs.Lists.{lineSize, periodCell, lineAt, listed, line, linesAt, inMode}
+use Rattle.words.specs.Moves.{moveSize, widthCell, topOf, top, moveCount, moves, log}
 use Rattle.words.specs.Calls.{replayLeaves}
 use Rattle.words.proofs.Tests.{either}
 use Rattle.words.proofs.Sums.{sum-le, sum-const, count-le, length-gather}
 use Rattle.words.proofs.Ranges.{gather-same, gather-stop}
 use Rattle.words.proofs.Groups.{table-length}
-use Rattle.words.proofs.Lines.{lines-top}
+use Rattle.words.proofs.Rows.{rows-times, rows-none}
+use Rattle.words.proofs.MoveLayout.{move-some, width-inside}
+use Rattle.words.proofs.LineLayout.{line-length, period-inside}
+use Rattle.words.proofs.Lines.{lines-at-each, lines-top}
 use Rattle.words.proofs.Logs.{log-well-formed}
 use Rattle.words.proofs.Replay.{replay-own}
 use Rattle.words.proofs.Room.{moves-length}
 use Rattle.lister.proofs.Answered.{replay-decided}
-use Rattle.streams.specs.declared.Out.{Out}
-use Rattle.agrees.specs.Parts.{partEnd}
-use Rattle.agrees.proofs.Agree.{list-and-groups-agree}
-use Rattle.agrees.proofs.Parts.{Keyed, keyed-cond, part-starts, part-end, part-is}
-use Rattle.agrees.proofs.OwnRows.{width-inside, period-inside, moves-keyed, lines-keyed}
+use Rattle.text_streams.specs.declared.Out.{Out}
+use Rattle.bench_agrees.specs.Parts.{partEnd}
+use Rattle.bench_agrees.proofs.Agree.{list-and-groups-agree}
+use Rattle.bench_agrees.proofs.Parts.{Keyed, keyed-cond, part-starts, part-end, part-is}
+use Rattle.bench_agrees.proofs.OwnRows.{moves-keyed, lines-keyed}
 use Rattle.bench_view.specs.Views.{logged, widthView, widthsOf, firstDiffer}
-use Rattle.bench_view.specs.Adding.{Adds}
+use Rattle.bench_view.specs.Collecting.{Collects}
 use Rattle.bench_view.specs.Places.{Brief, movesFrom, linesFrom, Shown, Own, Reached}
 use Rattle.bench_view.specs.declared.Place.{Place}
 
 module _ (x : List ℕ) where
-  logged-keyed : (w : ℕ) → Keyed 0 width-inside w (logged x w)
+  logged-keyed : (w : ℕ) → Keyed moveSize widthCell width-inside w (logged x w)
   unfolding logged
-  logged-keyed w = keyed-cond 0 width-inside w (ltb w (top x)) (moves x w) (moves-keyed x w)
+  logged-keyed w = keyed-cond moveSize widthCell width-inside w (ltb w (top x)) (moves x w) (moves-keyed x w)
 
   logged-below : (w : ℕ) → w < top x → moves x w ≡ logged x w
   unfolding logged
@@ -99,26 +104,34 @@ table-left x l out after w own few low high room e =
     ∙ take-at (table x w) (drop (length (table x w)) out) (length x) (table-length x w)
 
 -- a width of a read has at most one move and one line for each position
-few-moves : (x : List ℕ) (w : ℕ) → length x ≤ most → length (logged x w) ≤ 3 * most
+few-moves : (x : List ℕ) (w : ℕ) → length x ≤ most → rows moveSize (logged x w) ≤ most
 unfolding logged moveCount
 few-moves x w few =
     ⊎-elim
     (λ (t : ltb w (top x) ≡ true).
-    rw t (omega (arith, moves-length x w, table-length x w, count-le (λ j. eqb (at (smalls x w) (at (table x w) j)) 1) (length (table x w) - 1) 2)))
-    (λ (t : ltb w (top x) ≡ false). rw t (omega arith))
+    rw t
+    (omega (
+      arith,
+      rows-times moveSize (moves x w) _ move-some (moves-length x w),
+      table-length x w,
+      count-le (λ j. eqb (at (smalls x w) (at (table x w) j)) 1) (length (table x w) - 1) 2,
+    )))
+    (λ (t : ltb w (top x) ≡ false). rw t (omega (arith, rows-none moveSize)))
     (either (ltb w (top x)))
 
-few-lines : (x : List ℕ) (p : ℕ) → length x ≤ most → length (linesAt x 0 p) ≤ 3 * most
-unfolding linesAt line lineOf
+line-short : (x : List ℕ) (p i : ℕ) (b : Bool) → length (cond b (lineAt x p i) []) ≤ lineSize
+unfolding lineAt
+line-short x p i true = omega (arith, line-length i p (copies x i p))
+line-short x p i false = omega arith
+
+few-lines : (x : List ℕ) (p : ℕ) → length x ≤ most → rows lineSize (linesAt x (inMode x 0) p) ≤ most
+unfolding rows line rowIf
 few-lines x p few =
-    let each : sum (λ i. length (line x 0 p i)) (length x) 1 ≤ sum (λ i. 3) (length x) 1 =
-    sum-le (λ i. length (line x 0 p i)) (λ i. 3) (length x) 1
-    (λ i a b. one (leb 2 (copies x i p) && primitive x i p && wanted x 0 p i) i (copies x i p)) in
-    omega (arith, each, length-gather (line x 0 p) (length x) 1, sum-const 3 (length x) 1)
-  where
-    one : (b : Bool) (i e : ℕ) → length (cond b (i ∷ p ∷ e ∷ []) []) ≤ 3
-    one true i e = omega arith
-    one false i e = omega arith
+    let f : ℕ → List ℕ = line x (inMode x 0) p in
+    let each : sum (λ i. length (f i)) (length x) 1 ≤ sum (λ i. lineSize) (length x) 1 =
+    sum-le (λ i. length (f i)) (λ i. lineSize) (length x) 1 (λ i a b. line-short x p i (listed x (inMode x 0) p i)) in
+    rw (lines-at-each x (inMode x 0) p)
+    (div-le-of-le-mul lineSize (omega (arith, each, length-gather f (length x) 1, sum-const lineSize (length x) 1, mul-le-mul-left lineSize few)))
 
 -- before the first width
 pub reached-first : (x : List ℕ) (o : Out) → Reached x 1 (record { moved = 0; listed = 0; differ = 0; out = o })
@@ -132,23 +145,23 @@ module _ {x l m : List ℕ} (own : Own x l m) {w : ℕ} {p : Place} (r : Reached
   log-is : l ≡ gather (logged x) (top x) 1
   log-is = own .log ∙ log-logged x
 
-  list-is : m ≡ gather (linesAt x 0) (top x) 1
-  list-is = own .list ∙ lines-top x 0
+  list-is : m ≡ gather (linesAt x (inMode x 0)) (top x) 1
+  list-is = own .list ∙ lines-top x (inMode x 0)
 
   -- the places reached lie in the log and in the list
-  pub moved-inside : p .moved ≤ rows lineSize l
-  moved-inside = rw log-is (part-starts 0 width-inside (logged x) (logged-keyed x) (top x) w (p .moved) (r .low) below (r .moved))
+  pub moved-inside : p .moved ≤ rows moveSize l
+  moved-inside = rw log-is (part-starts moveSize widthCell width-inside (logged x) (logged-keyed x) (top x) w (p .moved) (r .low) below (r .moved))
 
   pub listed-inside : p .listed ≤ rows lineSize m
-  listed-inside = rw list-is (part-starts 1 period-inside (linesAt x 0) (lines-keyed x) (top x) w (p .listed) (r .low) below (r .listed))
+  listed-inside = rw list-is (part-starts lineSize periodCell period-inside (linesAt x (inMode x 0)) (lines-keyed x) (top x) w (p .listed) (r .low) below (r .listed))
 
   moves-part : movesFrom l w p ≡ logged x w
   unfolding movesFrom
-  moves-part = rw log-is (part-is 0 width-inside (logged x) (logged-keyed x) (top x) w (p .moved) (r .low) below (r .moved))
+  moves-part = rw log-is (part-is moveSize widthCell width-inside (logged x) (logged-keyed x) (top x) w (p .moved) (r .low) below (r .moved))
 
-  lines-part : linesFrom m w p ≡ linesAt x 0 w
+  lines-part : linesFrom m w p ≡ linesAt x (inMode x 0) w
   unfolding linesFrom
-  lines-part = rw list-is (part-is 1 period-inside (linesAt x 0) (lines-keyed x) (top x) w (p .listed) (r .low) below (r .listed))
+  lines-part = rw list-is (part-is lineSize periodCell period-inside (linesAt x (inMode x 0)) (lines-keyed x) (top x) w (p .listed) (r .low) below (r .listed))
 
   pub brief-own : (t : List ℕ) → length t ≤ most → Brief t (movesFrom l w p) (linesFrom m w p)
   brief-own t h =
@@ -158,19 +171,19 @@ module _ {x l m : List ℕ} (own : Own x l m) {w : ℕ} {p : Place} (r : Reached
         starts = rw lines-part (few-lines x w (own .few));
       }
 
-  moves-end : lineSize * partEnd l 0 w (p .moved) ≡ length (gather (logged x) w 1)
-  moves-end = rw log-is (part-end 0 width-inside (logged x) (logged-keyed x) (top x) w (p .moved) (r .low) below (r .moved))
+  moves-end : moveSize * partEnd moveSize l widthCell w (p .moved) ≡ length (gather (logged x) w 1)
+  moves-end = rw log-is (part-end moveSize widthCell width-inside (logged x) (logged-keyed x) (top x) w (p .moved) (r .low) below (r .moved))
 
-  lines-end : lineSize * partEnd m 1 w (p .listed) ≡ length (gather (linesAt x 0) w 1)
-  lines-end = rw list-is (part-end 1 period-inside (linesAt x 0) (lines-keyed x) (top x) w (p .listed) (r .low) below (r .listed))
+  lines-end : lineSize * partEnd lineSize m periodCell w (p .listed) ≡ length (gather (linesAt x (inMode x 0)) w 1)
+  lines-end = rw list-is (part-end lineSize periodCell period-inside (linesAt x (inMode x 0)) (lines-keyed x) (top x) w (p .listed) (r .low) below (r .listed))
 
   module _ {t buf after : List ℕ} {q : Place} (e : t ≡ table x w) (shown : Shown t l m w buf p after q) where
     s : Shown (table x w) l m w buf p after q
     s = rw e at shown
 
-    pub width-adds : Adds buf (p .out .used) (widthView x w) after (q .out .used)
+    pub width-collects : Collects buf (p .out .used) (widthView x w) after (q .out .used)
     unfolding widthView
-    width-adds = rw (moves-part, lines-part) at (s .adds)
+    width-collects = rw (moves-part, lines-part) at (s .collects)
 
     still-agree : q .differ ≡ 0
     unfolding firstDiffer
@@ -182,7 +195,7 @@ module _ {x l m : List ℕ} (own : Own x l m) {w : ℕ} {p : Place} (r : Reached
         record {
           low = omega arith;
           high = omega arith;
-          moved = ap (λ (v : ℕ). lineSize * v) (s .moved) ∙ moves-end ∙ ap (λ (v : ℕ). length (gather (logged x) v 1)) e;
-          listed = ap (λ (v : ℕ). lineSize * v) (s .listed) ∙ lines-end ∙ ap (λ (v : ℕ). length (gather (linesAt x 0) v 1)) e;
+          moved = ap (λ (v : ℕ). moveSize * v) (s .moved) ∙ moves-end ∙ ap (λ (v : ℕ). length (gather (logged x) v 1)) e;
+          listed = ap (λ (v : ℕ). lineSize * v) (s .listed) ∙ lines-end ∙ ap (λ (v : ℕ). length (gather (linesAt x (inMode x 0)) v 1)) e;
           agree = still-agree;
         }

@@ -1,27 +1,41 @@
 -- One line answered: what `next_line` gave is the read that `answer` collects the view of. Assumes nothing.
-use Prim.Native.Nat.{ℕ, _^_, _≤_, _<_}
-use mathlib.Core.Path.{_≡_}
+use Prim.Native.Nat.{ℕ, _/_, _^_, _≤_, _<_}
+use mathlib.Core.Path.{_≡_, ap, _∙_}
 use mathlib.Core.Bool.{false, false≢true}
 use mathlib.Core.List.{List, [], _∷_}
 use native.Mathlib.Omega.{arith}
 use lib.ListN.{length, take}
+use Rattle.words.specs.Rows.{rows}
+use Rattle.words.specs.Lists.{lineSize}
 use Rattle.words.specs.Calls.{listAnswer}
 use Rattle.words.proofs.Tests.{clash}
-use Rattle.texts.specs.Texts.{refusedText}
-use Rattle.streams.specs.Cuts.{Within, Given}
-use Rattle.streams.proofs.Keeping.{keeps-size, keeps-whole}
-use Rattle.streams.proofs.Turns.{rest-most}
-use Rattle.streams.specs.declared.Line.{Line}
-use Rattle.streams.specs.declared.Out.{Out}
+use Rattle.text_answers.specs.Texts.{refusedText}
+use Rattle.text_streams.specs.Cuts.{Within, Given}
+use Rattle.text_streams.proofs.Keeping.{keeps-size, keeps-whole}
+use Rattle.text_streams.proofs.Turns.{rest-most}
+use Rattle.text_streams.specs.declared.Line.{Line}
+use Rattle.text_streams.specs.declared.Out.{Out}
 use Rattle.bench_view.specs.Views.{viewText}
-use Rattle.bench_view.specs.Adding.{Adds}
-use Rattle.bench_view.specs.Steps.{Viewed, Stepped}
+use Rattle.bench_view.specs.Collecting.{Collects}
+use Rattle.bench_view.specs.Steps.{Bench, Viewed, Stepped}
 use Rattle.bench_view.specs.declared.State.{State}
 use Rattle.bench_view.proofs.Made.{view-long}
 
+-- the bench stays as large as it was
+pub bench-kept : {line list log table line′ list′ log′ table′ : List ℕ} → Bench line list log table
+    → length line′ ≡ length line → length list′ ≡ length list → length log′ ≡ length log → length table′ ≡ length table → Bench line′ list′ log′ table′
+unfolding rows
+bench-kept k a b c d =
+    record {
+      bytes = omega (arith, a, k .bytes);
+      lines = ap (λ (n : ℕ). n / lineSize) b ∙ k .lines;
+      moves = omega (arith, c, k .moves);
+      names = omega (arith, d, k .names);
+    }
+
 module _ {line : List ℕ} {len : ℕ} {list buf : List ℕ} {used : ℕ} {after : List ℕ} {end : ℕ} where
   -- a line over the limit is refused with its length
-  pub viewed-long : 1000 < len → Adds buf used (refusedText 1 (len ∷ [])) after end → Viewed line len list buf used after end
+  pub viewed-long : 1000 < len → Collects buf used (refusedText 1 (len ∷ [])) after end → Viewed line len list buf used after end
   viewed-long h a =
       record {
         inside = a .inside;
@@ -32,7 +46,7 @@ module _ {line : List ℕ} {len : ℕ} {list buf : List ℕ} {used : ℕ} {after
 
   -- of any other line every byte is kept
   pub viewed-whole : len < length line → length line < 2 ^ 64
-      → Adds buf used (viewText (listAnswer (take len line) 0 list) (take len line)) after end
+      → Collects buf used (viewText (listAnswer (take len line) 0 list) (take len line)) after end
       → Viewed line len list buf used after end
   viewed-whole h m a = record { inside = a .inside; text = λ x k b. let s : x ≡ take len line = keeps-whole k h m in rw s a }
 

@@ -1,4 +1,4 @@
 pub mod Views
-pub mod Adding
+pub mod Collecting
 pub mod Places
 pub mod Steps

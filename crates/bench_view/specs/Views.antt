@@ -6,11 +6,11 @@ use lib.ListN.{length}
 use lib.Dec.{ltb, eqb}
 use Rattle.words.specs.Range.{gather}
 use Rattle.words.specs.Groups.{table}
-use Rattle.words.specs.Lists.{linesAt}
+use Rattle.words.specs.Lists.{linesAt, inMode}
 use Rattle.words.specs.Moves.{topOf, top, moves}
 use Rattle.words.specs.Answers.{Answer}
-use Rattle.texts.specs.Texts.{refusedText}
-use Rattle.views.specs.Views.{widthText, headText, verdictText}
+use Rattle.text_answers.specs.Texts.{refusedText}
+use Rattle.text_views.specs.Views.{widthText, headText, verdictText}
 
 -- the moves of width w that the log holds: it stops before top
 unfoldable pub logged : List ℕ → ℕ → List ℕ
@@ -18,7 +18,7 @@ logged x w = cond (ltb w (top x)) (moves x w) []
 
 -- one width: the read's own groups, moves and lines
 unfoldable pub widthView : List ℕ → ℕ → List ℕ
-widthView x w = widthText w (table x w) (logged x w) (linesAt x 0 w)
+widthView x w = widthText w (table x w) (logged x w) (linesAt x (inMode x 0) w)
 
 -- how many widths are shown of a read of n bytes: 1 to top, none of an empty read
 unfoldable pub widthsOf : ℕ → ℕ

@@ -3,38 +3,40 @@
 // every byte that is collected for a read, and that the last line says that they agree.
 ghost use mathlib.Core.Path.{_≡_};
 ghost use mathlib.Core.List.{_∷_, []};
-ghost use Prim.Native.Nat.{ℕ, _+_, _*_, _≤_, _<_};
+ghost use Prim.Native.Nat.{_+_, _*_, _^_, _≤_, _<_};
 ghost use lib.ListN.{length, take};
 ghost use Rattle.words.specs.Range.{gather};
 ghost use Rattle.words.specs.Reads.{most};
 ghost use Rattle.words.specs.Rows.{rows};
-ghost use Rattle.words.specs.Lists.{lineSize, lines};
-ghost use Rattle.words.specs.Answers.{success, listedSays, loggedSays};
+ghost use Rattle.words.specs.Lists.{lineSize, lines, inMode};
+ghost use Rattle.words.specs.Moves.{moveSize, M};
 ghost use Rattle.words.specs.Calls.{listAnswer};
-ghost use Rattle.texts.specs.Texts.{refusedText};
-ghost use Rattle.streams.specs.Cuts.{Within};
-ghost use Rattle.views.specs.Views.{widthText, headText, verdictText};
+ghost use Rattle.text_answers.specs.Texts.{refusedText};
+ghost use Rattle.text_streams.specs.Cuts.{Within};
+ghost use Rattle.text_views.specs.Views.{widthText, headText, verdictText};
 ghost use Rattle.bench_view.specs.Views.{widthView, widthsOf, readView, viewText, firstDiffer};
-ghost use Rattle.bench_view.specs.Adding.{Ready, Adds};
+ghost use Rattle.bench_view.specs.Collecting.{Roomy, Collects};
 ghost use Rattle.bench_view.specs.Places.{Brief, movesFrom, linesFrom, Shown, Own, Reached};
 ghost use Rattle.bench_view.specs.Steps.{Bench, Viewed, Stepped};
-use edges::MOST;
-use streams::Out;
-use streams::Source;
-use words::Listed;
-use words::Logged;
-
-// how many numbers a move or a line takes
-const ROW: usize = 3;
+use bench_agrees::part_end;
+use read_edges::MOST;
+use row_cells::part;
+use row_lines::line_size;
+use row_lines::period_cell;
+use row_moves::entries;
+use row_moves::move_size;
+use row_moves::width_cell;
+use text_streams::Out;
+use text_streams::Source;
 
 // collects the first line of a read's view
 fn collect_head(read: &[u8], buf: &mut [u8], start: Out) -> Out
-    requires { ⌜ (length (now read) ≤ most) × Ready (now buf) (start .used) ⌝ }
-    ensures { λ r. ⌜ Adds (now (buf .entry)) (start .used) (headText (now (read .entry))) (now (buf .exit)) (r .used) ⌝ }
+    requires { ⌜ (length (now read) ≤ most) × Roomy (now buf) (start .used) ⌝ }
+    ensures { λ r. ⌜ Collects (now (buf .entry)) (start .used) (headText (now (read .entry))) (now (buf .exit)) (r .used) ⌝ }
 {
-    let o = streams::room(buf, read.len() + 27, start);
+    let o = text_streams::room(buf, read.len() + 27, start);
     let at = o.used;
-    let end = views::put_head(buf, at, read);
+    let end = text_views::put_head(buf, at, read);
     Out {
         used: end,
         ok: o.ok,
@@ -50,14 +52,16 @@ fn collect_width(
     buf: &mut [u8],
     start: Out,
 ) -> Out
-    requires { ⌜ Brief (now table) (now moves) (now lines) × Ready (now buf) (start .used) ⌝ }
-    ensures { λ r. ⌜ Adds (now (buf .entry)) (start .used) (widthText w (now (table .entry)) (now (moves .entry)) (now (lines .entry)))
+    requires { ⌜ Brief (now table) (now moves) (now lines) × Roomy (now buf) (start .used) ⌝ }
+    ensures { λ r. ⌜ Collects (now (buf .entry)) (start .used) (widthText w (now (table .entry)) (now (moves .entry)) (now (lines .entry)))
         (now (buf .exit)) (r .used) ⌝ }
 {
-    let need = 27 * table.len() + 9 * moves.len() + 9 * lines.len() + 64;
-    let o = streams::room(buf, need, start);
+    // a line: a word, and six bytes for each number
+    let each = 9 + 6 * line_size();
+    let need = 27 * table.len() + 27 * entries(moves) + each * row_lines::room(lines) + 64;
+    let o = text_streams::room(buf, need, start);
     let at = o.used;
-    let end = views::put_width(buf, at, w, table, moves, lines);
+    let end = text_views::put_width(buf, at, w, table, moves, lines);
     Out {
         used: end,
         ok: o.ok,
@@ -66,12 +70,12 @@ fn collect_width(
 
 // collects the last line, by the first width at which list and groups differ, 0 for none
 fn collect_verdict(w: usize, buf: &mut [u8], start: Out) -> Out
-    requires { ⌜ Ready (now buf) (start .used) ⌝ }
-    ensures { λ r. ⌜ Adds (now (buf .entry)) (start .used) (verdictText w) (now (buf .exit)) (r .used) ⌝ }
+    requires { ⌜ Roomy (now buf) (start .used) ⌝ }
+    ensures { λ r. ⌜ Collects (now (buf .entry)) (start .used) (verdictText w) (now (buf .exit)) (r .used) ⌝ }
 {
-    let o = streams::room(buf, 64, start);
+    let o = text_streams::room(buf, 64, start);
     let at = o.used;
-    let end = views::put_verdict(buf, at, w);
+    let end = text_views::put_verdict(buf, at, w);
     Out {
         used: end,
         ok: o.ok,
@@ -80,12 +84,12 @@ fn collect_verdict(w: usize, buf: &mut [u8], start: Out) -> Out
 
 // collects a refusal
 fn collect_refusal(number: u64, value: u64, buf: &mut [u8], start: Out) -> Out
-    requires { ⌜ (number < 10) × Ready (now buf) (start .used) ⌝ }
-    ensures { λ r. ⌜ Adds (now (buf .entry)) (start .used) (refusedText number (value ∷ [])) (now (buf .exit)) (r .used) ⌝ }
+    requires { ⌜ (number < 2 ^ 32) × Roomy (now buf) (start .used) ⌝ }
+    ensures { λ r. ⌜ Collects (now (buf .entry)) (start .used) (refusedText number (value ∷ [])) (now (buf .exit)) (r .used) ⌝ }
 {
-    let o = streams::room(buf, 64, start);
+    let o = text_streams::room(buf, 64, start);
     let at = o.used;
-    let end = texts::put_refused(buf, at, number, value);
+    let end = text_answers::put_refused(buf, at, number, value);
     Out {
         used: end,
         ok: o.ok,
@@ -112,19 +116,19 @@ struct Place {
 
 // shows one width, from its table, and compares
 fn show_table(table: &[u16], log: &[u16], list: &[u16], w: usize, buf: &mut [u8], p: Place) -> Place
-    requires { ⌜ Brief (now table) (movesFrom (now log) w p) (linesFrom (now list) w p) × Ready (now buf) (p .out .used)
-        × (p .moved ≤ rows lineSize (now log)) × (p .listed ≤ rows lineSize (now list)) ⌝ }
+    requires { ⌜ Brief (now table) (movesFrom (now log) w p) (linesFrom (now list) w p) × Roomy (now buf) (p .out .used)
+        × (p .moved ≤ rows moveSize (now log)) × (p .listed ≤ rows lineSize (now list)) ⌝ }
     ensures { λ r. ⌜ Shown (now (table .entry)) (now (log .entry)) (now (list .entry)) w (now (buf .entry)) p (now (buf .exit)) r ⌝ }
 {
     let from = p.moved;
     let start = p.listed;
     let o = p.out;
-    let moved = agrees::part_end(log, 0, w, from);
-    let listed = agrees::part_end(list, 1, w, start);
-    let moves = &log[ROW * from..ROW * moved];
-    let lines = &list[ROW * start..ROW * listed];
+    let moved = part_end(log, move_size(), width_cell(), w, from);
+    let listed = part_end(list, line_size(), period_cell(), w, start);
+    let moves = part(log, move_size(), from, moved);
+    let lines = part(list, line_size(), start, listed);
     let after = collect_width(w, table, moves, lines, buf, o);
-    let agree = agrees::agree_at(table, w, lines);
+    let agree = bench_agrees::agree_at(table, w, lines);
     Place {
         moved,
         listed,
@@ -144,9 +148,9 @@ fn show_width(
     p: Place,
 ) -> Place
     requires { ⌜ Own (now read) (now log) (now list) × Reached (now read) w p × (w ≤ widthsOf (length (now read)))
-        × (most ≤ length (now table)) × Ready (now buf) (p .out .used) ⌝ }
+        × (most ≤ length (now table)) × Roomy (now buf) (p .out .used) ⌝ }
     ensures { λ r. ⌜ Reached (now (read .entry)) (w + 1) r
-        × Adds (now (buf .entry)) (p .out .used) (widthView (now (read .entry)) w) (now (buf .exit)) (r .out .used) ⌝ }
+        × Collects (now (buf .entry)) (p .out .used) (widthView (now (read .entry)) w) (now (buf .exit)) (r .out .used) ⌝ }
 {
     let n = read.len();
     lister::replay(read, log, w as u32, table);
@@ -169,9 +173,9 @@ fn show_widths(
     buf: &mut [u8],
     start: Out,
 ) -> Place
-    requires { ⌜ Own (now read) (now log) (now list) × (most ≤ length (now table)) × Ready (now buf) (start .used) ⌝ }
+    requires { ⌜ Own (now read) (now log) (now list) × (most ≤ length (now table)) × Roomy (now buf) (start .used) ⌝ }
     ensures { λ r. ⌜ Reached (now (read .entry)) (widthsOf (length (now (read .entry))) + 1) r
-        × Adds (now (buf .entry)) (start .used) (gather (widthView (now (read .entry))) (widthsOf (length (now (read .entry)))) 1)
+        × Collects (now (buf .entry)) (start .used) (gather (widthView (now (read .entry))) (widthsOf (length (now (read .entry)))) 1)
         (now (buf .exit)) (r .out .used) ⌝ }
 {
     let top = widths(read.len());
@@ -189,17 +193,6 @@ fn show_widths(
     p
 }
 
-// the moves that a log call wrote
-fn moves_of(found: Logged) -> usize
-    ensures { λ r. ⌜ ((count : ℕ) → loggedSays found ≡ success count → r ≡ count) ⌝ }
-{
-    match found {
-        Logged::Moves(count) => count,
-        Logged::TooLong(n) => 0,
-        Logged::NoRoom(n) => 0,
-    }
-}
-
 // shows a read whose list of `count` lines is made
 fn show_read(
     read: &[u8],
@@ -210,12 +203,13 @@ fn show_read(
     buf: &mut [u8],
     start: Out,
 ) -> Out
-    requires { ⌜ (length (now read) ≤ most) × (lineSize * count ≤ length (now list)) × (take (lineSize * count) (now list) ≡ lines (now read) 0)
-        × (29970 ≤ length (now log)) × (most ≤ length (now table)) × Ready (now buf) (start .used) ⌝ }
-    ensures { λ r. ⌜ Adds (now (buf .entry)) (start .used) (readView (now (read .entry))) (now (buf .exit)) (r .used) ⌝ }
+    requires { ⌜ (length (now read) ≤ most) × (lineSize * count ≤ length (now list)) × (take (lineSize * count) (now list) ≡ lines (now read) (inMode (now read) 0))
+        × (moveSize * M most ≤ length (now log)) × (most ≤ length (now table)) × Roomy (now buf) (start .used) ⌝ }
+    ensures { λ r. ⌜ Collects (now (buf .entry)) (start .used) (readView (now (read .entry))) (now (buf .exit)) (r .used) ⌝ }
 {
-    let moves = ROW * moves_of(lister::log(read, log));
-    let size = ROW * count;
+    let found = call_answers::logged(lister::log(read, log));
+    let moves = move_size() * found.value as usize;
+    let size = line_size() * count;
     let o = collect_head(read, buf, start);
     let p = show_widths(read, &log[..moves], &list[..size], table, buf, o);
     let agree = p.listed == count;
@@ -227,36 +221,6 @@ fn show_read(
     )
 }
 
-// an answer in document 01's numbers: its number, 0 for success, and what it returns
-struct Told {
-    number: u64,
-    value: usize,
-}
-
-// what the list call answered
-fn tell(found: Listed) -> Told
-    ensures { λ r. ⌜ (r .number < 10) × (listedSays found ≡ record { number = r .number; values = r .value ∷ [] }) ⌝ }
-{
-    match found {
-        Listed::Lines(count) => Told {
-            number: 0,
-            value: count,
-        },
-        Listed::TooLong(n) => Told {
-            number: 1,
-            value: n,
-        },
-        Listed::BadMode(mode) => Told {
-            number: 2,
-            value: mode as usize,
-        },
-        Listed::NoRoom(count) => Told {
-            number: 3,
-            value: count,
-        },
-    }
-}
-
 // shows a read, or says why its list was refused
 fn show(
     read: &[u8],
@@ -266,15 +230,15 @@ fn show(
     buf: &mut [u8],
     start: Out,
 ) -> Out
-    requires { ⌜ (length (now list) ≡ 30000) × (29970 ≤ length (now log)) × (most ≤ length (now table)) × Ready (now buf) (start .used) ⌝ }
-    ensures { λ r. ⌜ Adds (now (buf .entry)) (start .used) (viewText (listAnswer (now (read .entry)) 0 (now (list .entry))) (now (read .entry)))
+    requires { ⌜ (moveSize * M most ≤ length (now log)) × (most ≤ length (now table)) × Roomy (now buf) (start .used) ⌝ }
+    ensures { λ r. ⌜ Collects (now (buf .entry)) (start .used) (viewText (listAnswer (now (read .entry)) 0 (now (list .entry))) (now (read .entry)))
         (now (buf .exit)) (r .used) ⌝ }
 {
-    let a = tell(lister::list(read, 0, list));
+    let a = call_answers::listed(lister::list(read, 0, list));
     if a.number == 0 {
-        return show_read(read, list, a.value, log, table, buf, start);
+        return show_read(read, list, a.value as usize, log, table, buf, start);
     }
-    collect_refusal(a.number, a.value as u64, buf, start)
+    collect_refusal(a.number as u64, a.value, buf, start)
 }
 
 // shows a line of `len` bytes: the bytes that are kept of a line over the limit are not the read, so it is refused here
@@ -287,7 +251,7 @@ fn answer(
     buf: &mut [u8],
     start: Out,
 ) -> Out
-    requires { ⌜ Bench (now line) (now list) (now log) (now table) × Ready (now buf) (start .used) ⌝ }
+    requires { ⌜ Bench (now line) (now list) (now log) (now table) × Roomy (now buf) (start .used) ⌝ }
     ensures { λ r. ⌜ Viewed (now (line .entry)) len (now (list .entry)) (now (buf .entry)) (start .used) (now (buf .exit)) (r .used) ⌝ }
 {
     if MOST < len {
@@ -313,12 +277,12 @@ fn step(
     buf: &mut [u8],
     s: State,
 ) -> State
-    requires { ⌜ Within (now input) (s .source) × Bench (now line) (now list) (now log) (now table) × Ready (now buf) (s .out .used) ⌝ }
+    requires { ⌜ Within (now input) (s .source) × Bench (now line) (now list) (now log) (now table) × Roomy (now buf) (s .out .used) ⌝ }
     ensures { λ r. ⌜ Stepped (now (input .entry)) (now (list .entry)) (now (buf .entry)) s (now (line .exit)) (now (buf .exit)) r ⌝ }
 {
     let source = s.source;
     let o = s.out;
-    let l = streams::next_line(input, line, source);
+    let l = text_streams::next_line(input, line, source);
     let next = l.source;
     if l.found {
         let after = answer(line, l.len, list, log, table, buf, o);
@@ -344,7 +308,7 @@ fn all(
     table: &mut [u16],
     buf: &mut [u8],
 ) -> Out
-    requires { ⌜ Bench (now line) (now list) (now log) (now table) × Ready (now buf) 0 ⌝ }
+    requires { ⌜ Bench (now line) (now list) (now log) (now table) × Roomy (now buf) 0 ⌝ }
     ensures { λ r. ⌜ r .used ≤ length (now (buf .entry)) ⌝ }
 {
     let mut s = State {
@@ -376,10 +340,10 @@ fn run(
     table: &mut [u16],
     buf: &mut [u8],
 )
-    requires { ⌜ Bench (now line) (now list) (now log) (now table) × Ready (now buf) 0 ⌝ }
+    requires { ⌜ Bench (now line) (now list) (now log) (now table) × Roomy (now buf) 0 ⌝ }
 {
     let o = all(input, line, list, log, table, buf);
-    streams::flush(buf, o);
+    text_streams::flush(buf, o);
 }
 
 fn main() {

@@ -11,7 +11,7 @@ use lib.Seq.{take-append-seam}
 use Rattle.words.specs.Rows.{row, rows}
 use Rattle.words.specs.Reads.{most}
 use Rattle.words.specs.Repeats.{repeats, leads}
-use Rattle.words.specs.Lists.{lineOf, lineSize, lines, lineCount}
+use Rattle.words.specs.Lists.{lineOf, lineSize, lines, lineCount, inMode}
 use Rattle.words.specs.Groups.{table}
 use Rattle.words.specs.Moves.{topOf, top, moveOf, moveSize, log, M}
 use Rattle.words.specs.Logs.{before}
@@ -21,11 +21,12 @@ use Rattle.words.specs.declared.Listed.{Listed}
 use Rattle.words.specs.declared.Logged.{Logged}
 use Rattle.words.proofs.Tests.{lt-or-ge}
 use Rattle.words.proofs.Rows.{Has}
-use Rattle.words.proofs.Lists.{wanted-all, wanted-leading, lines-exactly, lines-ordered}
+use Rattle.words.proofs.Lists.{mode-all, mode-leading, lines-exactly, lines-ordered}
+use Rattle.words.proofs.Afterwards.{front}
 use Rattle.words.proofs.Replay.{replay-own}
 use Rattle.words.proofs.Logs.{Move, log-exactly, log-ordered, log-well-formed}
 use Rattle.words.proofs.Room.{log-room}
-use Rattle.lister.proofs.Answered.{front, ListDecided, TableDecided, LogDecided, ReplayDecided, ClaimDecided, list-decided, table-decided, log-decided, replay-decided, claim-decided}
+use Rattle.lister.proofs.Answered.{ListDecided, TableDecided, LogDecided, ReplayDecided, ClaimDecided, list-decided, table-decided, log-decided, replay-decided, claim-decided}
 
 -- ---- the first demand
 
@@ -48,22 +49,22 @@ pub record Crochemores (x : List ℕ) (mode : ℕ) (made : List ℕ) : Type 0 wh
   pub leading : mode ≡ 1 → (i p e : ℕ) → Has lineSize made (lineOf i p e) ↔ ((repeats x i p e ≡ true) × (leads x i p ≡ true))
   pub ordered : (h k i p e j q d : ℕ) → h < k → k < rows lineSize made → row lineSize made h ≡ lineOf i p e → row lineSize made k ≡ lineOf j q d → (p < q) ⊎ ((p ≡ q) × (i < j))
 
-crochemores-lines : (x : List ℕ) (mode : ℕ) → Crochemores x mode (lines x mode)
+crochemores-lines : (x : List ℕ) (mode : ℕ) → Crochemores x mode (lines x (inMode x mode))
 crochemores-lines x mode =
     record {
       full = λ m i p e. full m i p e;
       leading = λ m i p e. leading m i p e;
-      ordered = λ h k i p e j q d l b u v. lines-ordered x mode h k i p e j q d l b u v;
+      ordered = λ h k i p e j q d l b u v. lines-ordered x (inMode x mode) h k i p e j q d l b u v;
     }
   where
-    full : mode ≡ 0 → (i p e : ℕ) → Has lineSize (lines x mode) (lineOf i p e) ↔ (repeats x i p e ≡ true)
-    full m i p e = rw m (λ h. lines-exactly x 0 i p e .0 h .0, λ t. lines-exactly x 0 i p e .1 (t, wanted-all x p i))
+    full : mode ≡ 0 → (i p e : ℕ) → Has lineSize (lines x (inMode x mode)) (lineOf i p e) ↔ (repeats x i p e ≡ true)
+    full m i p e = rw m (λ h. lines-exactly x (inMode x 0) i p e .0 h .0, λ t. lines-exactly x (inMode x 0) i p e .1 (t, mode-all x p i))
 
-    leading : mode ≡ 1 → (i p e : ℕ) → Has lineSize (lines x mode) (lineOf i p e) ↔ ((repeats x i p e ≡ true) × (leads x i p ≡ true))
+    leading : mode ≡ 1 → (i p e : ℕ) → Has lineSize (lines x (inMode x mode)) (lineOf i p e) ↔ ((repeats x i p e ≡ true) × (leads x i p ≡ true))
     leading m i p e =
         rw m (
-          λ h. let r = lines-exactly x 1 i p e .0 h in (r .0, sym (wanted-leading x p i) ∙ r .1),
-          λ t. lines-exactly x 1 i p e .1 (t .0, wanted-leading x p i ∙ t .1),
+          λ h. let r = lines-exactly x (inMode x 1) i p e .0 h in (r .0, sym (mode-leading x p i) ∙ r .1),
+          λ t. lines-exactly x (inMode x 1) i p e .1 (t .0, mode-leading x p i ∙ t .1),
         )
 
 -- a refusal is no success
@@ -75,19 +76,19 @@ differs k v a e z = absurd (omega (arith, ap (λ (b : Answer). b .number) e, z))
 pub list-is-crochemores : (x : List ℕ) (mode : ℕ) (out out′ : List ℕ) (r : Listed) → listedSays r ≡ listAnswer x mode out → out′ ≡ listLeaves x mode out → listedSays r .number ≡ 0
     → (made : List ℕ) × (take (length made) out′ ≡ made) × (listedSays r ≡ success (rows lineSize made)) × Crochemores x mode made
 unfolding lineCount
-list-is-crochemores x mode out out′ r says left ok = go (lt-or-ge most (length x)) (lt-or-ge 1 mode) (lt-or-ge (rows lineSize out) (lineCount x mode))
+list-is-crochemores x mode out out′ r says left ok = go (lt-or-ge most (length x)) (lt-or-ge 1 mode) (lt-or-ge (rows lineSize out) (lineCount x (inMode x mode)))
   where
     D : ListDecided x mode out
     D = list-decided x mode out
 
-    go : (most < length x) ⊎ (length x ≤ most) → (1 < mode) ⊎ (mode ≤ 1) → (rows lineSize out < lineCount x mode) ⊎ (lineCount x mode ≤ rows lineSize out)
+    go : (most < length x) ⊎ (length x ≤ most) → (1 < mode) ⊎ (mode ≤ 1) → (rows lineSize out < lineCount x (inMode x mode)) ⊎ (lineCount x (inMode x mode) ≤ rows lineSize out)
         → (made : List ℕ) × (take (length made) out′ ≡ made) × (listedSays r ≡ success (rows lineSize made)) × Crochemores x mode made
     go (inl h) m l = differs 0 (length x) (listedSays r) (says ∙ D .long h .0) ok
     go (inr h) (inl m) l = differs 1 mode (listedSays r) (says ∙ D .mode-bad h m .0) ok
-    go (inr h) (inr m) (inl l) = differs 2 (lineCount x mode) (listedSays r) (says ∙ D .no-room h m l .0) ok
+    go (inr h) (inr m) (inl l) = differs 2 (lineCount x (inMode x mode)) (listedSays r) (says ∙ D .list-full h m l .0) ok
     go (inr h) (inr m) (inr l) = (
-      lines x mode,
-      ap (take (length (lines x mode))) (left ∙ D .done h m l .1) ∙ take-append-seam (lines x mode) _,
+      lines x (inMode x mode),
+      ap (take (length (lines x (inMode x mode)))) (left ∙ D .done h m l .1) ∙ take-append-seam (lines x (inMode x mode)) _,
       says ∙ D .done h m l .0,
       crochemores-lines x mode,
     )

@@ -14,12 +14,12 @@ use Rattle.words.specs.Groups.{Least, table, allSmall, smalls, gap}
 use Rattle.words.proofs.Tests.{lt-or-ge}
 use Rattle.words.proofs.Groups.{table-length, table-least}
 use Rattle.words.proofs.Small.{all-small-at, all-small-length, smalls-first}
-use Rattle.slots.specs.Slots.{view}
-use Rattle.slots.proofs.Laws.{view-length, view-is}
-use Rattle.distances.specs.Lists.{Lists, Fillable}
-use Rattle.refine.specs.Links.{Linked}
-use Rattle.refine.specs.Phases.{Clean, Sized, FlagsOf, Flagged, Marked}
-use Rattle.refine.proofs.Links.{Nearest, gap-nearest}
+use Rattle.step_slots.specs.Slots.{view}
+use Rattle.step_slots.proofs.Laws.{view-length, view-is}
+use Rattle.step_distances.specs.Lists.{Lists, Fillable}
+use Rattle.step_refine.specs.Links.{Linked}
+use Rattle.step_refine.specs.Phases.{Clean, Sized, FlagsOf, Flagged, Marked}
+use Rattle.step_refine.proofs.Links.{Nearest, gap-nearest}
 use Rattle.partition.specs.Held.{Held, Scratch}
 
 -- an array of zeros

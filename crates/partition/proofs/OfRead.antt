@@ -13,9 +13,9 @@ use Rattle.words.proofs.Groups.{table-length, table-least}
 use Rattle.words.proofs.Small.{smalls-next}
 use Rattle.words.proofs.Steps.{next-table}
 use Rattle.words.proofs.Stop.{Quiet, count-still, still-quiet}
-use Rattle.slots.specs.Slots.{view}
-use Rattle.refine.specs.Refine.{queue, nextOf}
-use Rattle.refine.proofs.Steps.{next-table-queue}
+use Rattle.step_slots.specs.Slots.{view}
+use Rattle.step_refine.specs.Refine.{queue, nextOf}
+use Rattle.step_refine.proofs.Steps.{next-table-queue}
 use Rattle.partition.specs.Held.{Advanced, Stands}
 use Rattle.partition.specs.Stand.{Good, Of, groups, smallOnes}
 use Rattle.partition.specs.declared.Partition.{Partition}

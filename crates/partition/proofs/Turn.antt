@@ -13,14 +13,14 @@ use Rattle.words.specs.Reads.{at}
 use Rattle.words.specs.Groups.{big, partsSmall}
 use Rattle.words.proofs.Tests.{and-left, lt-or-ge}
 use Rattle.words.proofs.Small.{parts-small-at, parts-small-length}
-use Rattle.slots.specs.Slots.{view}
-use Rattle.slots.proofs.Laws.{view-length, view-is}
-use Rattle.distances.specs.Lists.{Lists}
-use Rattle.refine.specs.Refine.{queue, nextOf}
-use Rattle.refine.specs.Phases.{Ready, FlagsOf, Flagged}
-use Rattle.refine.proofs.Next.{next-length, next-least}
-use Rattle.refine.proofs.Queue.{queue-lined}
-use Rattle.refine.proofs.Lengths.{queue-length, queue-short}
+use Rattle.step_slots.specs.Slots.{view}
+use Rattle.step_slots.proofs.Laws.{view-length, view-is}
+use Rattle.step_distances.specs.Lists.{Lists}
+use Rattle.step_refine.specs.Refine.{queue, nextOf}
+use Rattle.step_refine.specs.Phases.{Ready, FlagsOf, Flagged}
+use Rattle.step_refine.proofs.Next.{next-length, next-least}
+use Rattle.step_refine.proofs.Queue.{queue-lined}
+use Rattle.step_refine.proofs.Lengths.{queue-length, queue-short}
 use Rattle.partition.specs.Held.{Held, Apart, Settled, Advanced}
 
 -- flags of parts are flags of names

@@ -6,12 +6,12 @@ use lib.ListN.{length}
 use Rattle.words.specs.Reads.{at}
 use Rattle.words.specs.Groups.{Least, table, partsSmall, smalls}
 use Rattle.words.specs.Moves.{moveCount}
-use Rattle.slots.specs.Slots.{view}
-use Rattle.distances.specs.Lists.{Lists}
-use Rattle.refine.specs.Refine.{queue, nextOf}
-use Rattle.refine.specs.Links.{Linked}
-use Rattle.refine.specs.Phases.{Clean, Sized, Parts, Tails, Rests, Left, FlagsOf, Flagged, Marked}
-use Rattle.relink.specs.Relink.{Relinked}
+use Rattle.step_slots.specs.Slots.{view}
+use Rattle.step_distances.specs.Lists.{Lists}
+use Rattle.step_refine.specs.Refine.{queue, nextOf}
+use Rattle.step_refine.specs.Links.{Linked}
+use Rattle.step_refine.specs.Phases.{Clean, Sized, Parts, Tails, Rests, Left, FlagsOf, Flagged, Marked}
+use Rattle.step_relink.specs.Relink.{Relinked}
 
 -- names, flags, sizes, links and lists by distance agree, for a read of n bytes
 pub record Held (n : ℕ) (name small block sizes prev dist head after before : List ℕ) : Type 0 where

@@ -2,7 +2,7 @@
 use Prim.Native.Nat.{ℕ, _≤_}
 use mathlib.Core.Path.{_≡_}
 use mathlib.Core.List.{List}
-use Rattle.slots.specs.Slots.{view}
+use Rattle.step_slots.specs.Slots.{view}
 use Rattle.partition.specs.Held.{Held, Stands}
 use Rattle.partition.specs.declared.Partition.{Partition}
 

@@ -5,25 +5,25 @@ ghost use mathlib.Core.Path.{_≡_};
 ghost use Prim.Native.Nat.{_≤_, _<_};
 ghost use lib.ListN.{length};
 ghost use Rattle.words.specs.Steps.{stepWidth, stepTable, stepSmalls, stepCount};
-ghost use Rattle.slots.specs.Slots.{view};
-ghost use Rattle.distances.specs.Lists.{Lists};
-ghost use Rattle.refine.specs.Refine.{nextOf};
-ghost use Rattle.refine.specs.Links.{Linked};
-ghost use Rattle.refine.specs.Phases.{Ready, Clean, Sized, Parts, Tails, Rests, Left, Gaps};
+ghost use Rattle.step_slots.specs.Slots.{view};
+ghost use Rattle.step_distances.specs.Lists.{Lists};
+ghost use Rattle.step_refine.specs.Refine.{nextOf};
+ghost use Rattle.step_refine.specs.Links.{Linked};
+ghost use Rattle.step_refine.specs.Phases.{Ready, Clean, Sized, Parts, Tails, Rests, Left, Gaps};
 ghost use Rattle.partition.specs.Held.{Held, Scratch, Apart, Settled, Advanced};
 ghost use Rattle.partition.specs.Stand.{Good, Of, groups, smallOnes};
-use choose::choose_all;
-use choose::flag_all;
-use counts::count_all;
-use distances::fill;
-use fresh::count_letters;
-use fresh::link_letters;
-use parts::part_all;
-use queue::push_all;
-use relink::relink_all;
-use renew::name_all;
-use renew::renew_all;
-use rests::rest_all;
+use step_choose::choose_all;
+use step_choose::flag_all;
+use step_counts::count_all;
+use step_distances::fill;
+use step_fresh::count_letters;
+use step_fresh::link_letters;
+use step_parts::part_all;
+use step_queue::push_all;
+use step_relink::relink_all;
+use step_renew::name_all;
+use step_renew::renew_all;
+use step_rests::rest_all;
 
 pub struct Partition {
     pub n: u16,
@@ -152,7 +152,7 @@ pub fn advance(
 }
 
 impl Partition {
-    pub const MOST: usize = edges::MOST;
+    pub const MOST: usize = read_edges::MOST;
 
     // the partition of a read at width 1
     pub fn fresh(read: &[u8]) -> Partition

@@ -6,12 +6,11 @@ use native.Mathlib.Omega.{arith}
 use lib.ListN.{length, length-append, length-drop, take, drop}
 use lib.Seq.{length-take-le, take-at}
 use Rattle.words.specs.Answers.{Answer}
-use Rattle.texts.specs.Texts.{answerText}
-use Rattle.texts.specs.Puts.{Printable}
-use Rattle.streams.proofs.Keeping.{keeps-size}
-use Rattle.streams.proofs.Placing.{place-room}
-use Rattle.streams.specs.Lines.{Keeps}
-use Rattle.print_repeats.specs.Output.{printed, Ready, textPlace, Heard, Collected}
+use Rattle.text_answers.specs.Texts.{answerText, Printable}
+use Rattle.text_streams.proofs.Keeping.{keeps-size}
+use Rattle.text_streams.proofs.Placing.{place-room}
+use Rattle.text_streams.specs.Lines.{Keeps}
+use Rattle.print_repeats.specs.Output.{printed, Spacious, textPlace, Heard, Collected}
 
 -- the slice has the same length after the call
 place-same : (list made buf : List ℕ) (used : ℕ) → length made ≡ length list → textPlace made buf used ≡ textPlace list buf used
@@ -20,7 +19,7 @@ place-same list made buf used e = rw e
 
 -- a text written to the rest of the buffer from its place on
 module _ {line : List ℕ} {len : ℕ} {list buf : List ℕ} {used : ℕ} {a : Answer} {made : List ℕ} (h : Heard line len list a made)
-    (ready : Ready list buf used) (same : length made ≡ length list) {at : ℕ} (e : at ≡ textPlace made buf used) where
+    (ready : Spacious list buf used) (same : length made ≡ length list) {at : ℕ} (e : at ≡ textPlace made buf used) where
   abbrev rest : List ℕ
   rest = take (length buf - at) (drop at buf)
 

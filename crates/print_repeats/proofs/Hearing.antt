@@ -10,12 +10,12 @@ use lib.ListN.{length, take}
 use lib.Dec.{ltb}
 use borrow.Author.Tests.{lt-ltb, ltb-false}
 use Rattle.words.specs.Rows.{rows}
-use Rattle.words.specs.Lists.{lineSize, lineCount}
+use Rattle.words.specs.Lists.{lineSize, lineCount, inMode}
 use Rattle.words.specs.Logs.{within}
 use Rattle.words.specs.Answers.{Answer, success, refusal}
-use Rattle.words.specs.Calls.{refuse, tooLong, leaves, listAnswer, listLeaves}
-use Rattle.texts.specs.Texts.{lineTotal}
-use Rattle.streams.proofs.Keeping.{keeps-size, keeps-whole}
+use Rattle.words.specs.Calls.{refuse, tooLong, afterwards, listAfterwards, listAnswer, listLeaves}
+use Rattle.text_answers.specs.Texts.{lineTotal}
+use Rattle.text_streams.proofs.Keeping.{keeps-size, keeps-whole}
 use Rattle.print_repeats.specs.Output.{Heard}
 
 rows-inside : (c : ℕ) (l : List ℕ) → c * rows c l ≤ length l
@@ -26,21 +26,21 @@ rows-inside c l = mul-div-le (length l) c
 answer-lines : (x : List ℕ) (mode : ℕ) (list : List ℕ) → listAnswer x mode list .number ≡ 0 →
     lineSize * lineTotal (listAnswer x mode list) ≤ length list
 unfolding listAnswer refuse refusal success lineTotal
-answer-lines x mode list = go (tooLong x) (not (within 0 1 mode)) (ltb (rows lineSize list) (lineCount x mode)) refl
+answer-lines x mode list = go (tooLong x) (not (within 0 1 mode)) (ltb (rows lineSize list) (lineCount x (inMode x mode))) refl
   where
-    go : (long other short : Bool) → ltb (rows lineSize list) (lineCount x mode) ≡ short →
-        let a = refuse long 1 (length x) (refuse other 2 mode (refuse short 3 (lineCount x mode) (success (lineCount x mode)))) in
+    go : (long other short : Bool) → ltb (rows lineSize list) (lineCount x (inMode x mode)) ≡ short →
+        let a = refuse long 1 (length x) (refuse other 2 mode (refuse short 3 (lineCount x (inMode x mode)) (success (lineCount x (inMode x mode))))) in
         a .number ≡ 0 → lineSize * lineTotal a ≤ length list
     go true other short e z = absurd (omega (arith, z))
     go false true short e z = absurd (omega (arith, z))
     go false false true e z = absurd (omega (arith, z))
     go false false false e z =
-        let enough : lineCount x mode ≤ rows lineSize list = ltb-false _ _ e in
+        let enough : lineCount x (inMode x mode) ≤ rows lineSize list = ltb-false _ _ e in
         omega (arith, rows-inside lineSize list, mul-le-mul-left lineSize enough)
 
 module _ (line : List ℕ) (len : ℕ) (list : List ℕ) where
   pub heard-long : 1000 < len → Heard line len list (refusal 1 len) list
-  unfolding refusal listAnswer listLeaves leaves refuse tooLong
+  unfolding refusal listAnswer listLeaves listAfterwards afterwards refuse tooLong
   heard-long h =
       record {
         lines = λ z. absurd (omega (arith, z));

@@ -6,10 +6,10 @@ use mathlib.Core.List.{List}
 use native.Mathlib.Omega.{arith}
 use lib.ListN.{length}
 use Rattle.words.proofs.Tests.{clash}
-use Rattle.streams.specs.Cuts.{Within, Given}
-use Rattle.streams.proofs.Turns.{rest-most}
-use Rattle.streams.specs.declared.Line.{Line}
-use Rattle.streams.specs.declared.Out.{Out}
+use Rattle.text_streams.specs.Cuts.{Within, Given}
+use Rattle.text_streams.proofs.Turns.{rest-most}
+use Rattle.text_streams.specs.declared.Line.{Line}
+use Rattle.text_streams.specs.declared.Out.{Out}
 use Rattle.print_repeats.specs.Output.{Collected, Stepped}
 use Rattle.print_repeats.specs.declared.State.{State}
 

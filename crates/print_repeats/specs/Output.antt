@@ -7,10 +7,10 @@ use lib.ListN.{length, take}
 use Rattle.words.specs.Lists.{lineSize}
 use Rattle.words.specs.Answers.{Answer}
 use Rattle.words.specs.Calls.{listAnswer, listLeaves}
-use Rattle.texts.specs.Texts.{lineTotal, answerText}
-use Rattle.streams.specs.Lines.{Keeps, Continues}
-use Rattle.streams.specs.Cuts.{Within, endOf, restOf}
-use Rattle.streams.specs.Places.{nextPlace}
+use Rattle.text_answers.specs.Texts.{lineTotal, answerText}
+use Rattle.text_streams.specs.Lines.{Keeps, Continues}
+use Rattle.text_streams.specs.Cuts.{Within, endOf, restOf}
+use Rattle.text_streams.specs.Places.{nextPlace}
 use Rattle.print_repeats.specs.declared.State.{State}
 
 -- what is printed for a read x, whose list is made in mode 0
@@ -18,7 +18,7 @@ unfoldable pub printed : List ℕ → List ℕ → List ℕ
 printed x list = answerText (listAnswer x 0 list) (length x) (listLeaves x 0 list)
 
 -- the buffer has room for a text, and what is collected lies in it
-pub record Ready (list buf : List ℕ) (used : ℕ) : Type 0 where
+pub record Spacious (list buf : List ℕ) (used : ℕ) : Type 0 where
   pub room : 6 * length list + 64 ≤ length buf
   pub inside : used ≤ length buf
 

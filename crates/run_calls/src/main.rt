@@ -1,12 +1,9 @@
 // Runs every call on the reads with known results that document 01 has run, at the edges of each refusal and on refusals in combination, and
-// prints each answer in the document's numbers with the slice before and after.
+// prints each answer in the document's numbers with the slice before and after. The reader is lent to `next` by `call_reader::call_once`.
+ghost use Prim.Native.Nat.{_≤_};
+use call_answers::Answer;
 use libc::STDOUT_FILENO;
-use words::Claimed;
 use words::Entry;
-use words::Listed;
-use words::Logged;
-use words::Replayed;
-use words::Tabled;
 
 fn word(text: &[u8]) {
     io::write_all(STDOUT_FILENO, text);
@@ -33,148 +30,106 @@ fn slice(a: &[u16]) {
 }
 
 // an answer in the document's numbers
-fn answer(k: u64, v: u64) {
+fn answer(a: Answer) {
     word(b"answer");
-    number(k);
-    number(v);
+    number(a.number as u64);
+    number(a.value);
     word(b"\n");
-}
-
-fn listed(r: Listed) {
-    match r {
-        Listed::Lines(c) => answer(0, c as u64),
-        Listed::TooLong(n) => answer(1, n as u64),
-        Listed::BadMode(m) => answer(2, m as u64),
-        Listed::NoRoom(c) => answer(3, c as u64),
-    }
-}
-
-fn tabled(r: Tabled) {
-    match r {
-        Tabled::Names(n) => answer(0, n as u64),
-        Tabled::TooLong(n) => answer(1, n as u64),
-        Tabled::BadWidth(w) => answer(2, w as u64),
-        Tabled::NoRoom(n) => answer(4, n as u64),
-    }
-}
-
-fn logged(r: Logged) {
-    match r {
-        Logged::Moves(c) => answer(0, c as u64),
-        Logged::TooLong(n) => answer(1, n as u64),
-        Logged::NoRoom(n) => answer(4, n as u64),
-    }
-}
-
-fn replayed(r: Replayed) {
-    match r {
-        Replayed::Names(n) => answer(0, n as u64),
-        Replayed::TooLong(n) => answer(1, n as u64),
-        Replayed::BadWidth(w) => answer(2, w as u64),
-        Replayed::NoRoom(n) => answer(4, n as u64),
-        Replayed::BadEntry(k) => answer(5, k as u64),
-    }
-}
-
-fn claimed(r: Claimed) {
-    match r {
-        Claimed::Yes => answer(0, 1),
-        Claimed::No => answer(0, 0),
-        Claimed::TooLong(n) => answer(1, n as u64),
-    }
 }
 
 // one call of each kind, with the slice before and after
 fn list_on(read: &[u8], mode: u32, out: &mut [u16]) {
     word(b"list\n");
     slice(out);
-    listed(lister::list(read, mode, out));
+    answer(call_answers::listed(lister::list(read, mode, out)));
     slice(out);
 }
 
 fn table_on(read: &[u8], width: u32, out: &mut [u16]) {
     word(b"table\n");
     slice(out);
-    tabled(lister::group_table(read, width, out));
+    answer(call_answers::tabled(lister::group_table(read, width, out)));
     slice(out);
 }
 
 fn log_on(read: &[u8], out: &mut [u16]) {
     word(b"log\n");
     slice(out);
-    logged(lister::log(read, out));
+    answer(call_answers::logged(lister::log(read, out)));
     slice(out);
 }
 
 fn replay_on(read: &[u8], log: &[u16], width: u32, out: &mut [u16]) {
     word(b"replay\n");
     slice(out);
-    replayed(lister::replay(read, log, width, out));
+    answer(call_answers::replayed(lister::replay(read, log, width, out)));
     slice(out);
 }
 
 fn claim_on(read: &[u8], start: u32, period: u32, copies: u32) {
     word(b"claim\n");
-    claimed(lister::claim(read, start, period, copies));
+    answer(call_answers::claimed(lister::claim(read, start, period, copies)));
     word(lister::motif(read, start, period, copies));
     word(b"\n");
 }
 
-fn lists() {
-    let mut out = [7u16; 12];
-    list_on(b"ACAACACA", 0, &mut out[..]);
-    let mut out = [7u16; 11];
-    list_on(b"ACAACACA", 0, &mut out[..]);
+// the same on so many sevens
+fn list_in(read: &[u8], mode: u32, room: usize)
+    requires { ⌜ room ≤ 14 ⌝ }
+{
     let mut out = [7u16; 14];
-    list_on(b"ACAACACA", 1, &mut out[..]);
-    let mut out = [7u16; 11];
-    list_on(b"ACAACACA", 2, &mut out[..]);
+    list_on(read, mode, &mut out[..room]);
 }
 
-fn more_lists() {
+fn table_in(read: &[u8], width: u32, room: usize)
+    requires { ⌜ room ≤ 257 ⌝ }
+{
+    let mut out = [7u16; 257];
+    table_on(read, width, &mut out[..room]);
+}
+
+fn log_in(read: &[u8], room: usize)
+    requires { ⌜ room ≤ 6885 ⌝ }
+{
+    let mut out = [7u16; 6885];
+    log_on(read, &mut out[..room]);
+}
+
+fn replay_in(read: &[u8], log: &[u16], width: u32, room: usize)
+    requires { ⌜ room ≤ 9 ⌝ }
+{
     let mut out = [7u16; 9];
-    list_on(b"AAAA", 0, &mut out[..]);
-    let mut out = [7u16; 9];
-    list_on(b"AAAA", 1, &mut out[..]);
-    let mut out = [7u16; 12];
-    list_on(b"ACACACA", 1, &mut out[..]);
-    let mut out = [7u16; 2];
-    list_on(b"", 0, &mut out[..]);
+    replay_on(read, log, width, &mut out[..room]);
+}
+
+fn lists() {
+    list_in(b"ACAACACA", 0, 12);
+    list_in(b"ACAACACA", 0, 11);
+    list_in(b"ACAACACA", 1, 14);
+    list_in(b"ACAACACA", 2, 11);
+    list_in(b"AAAA", 0, 9);
+    list_in(b"AAAA", 1, 9);
+    list_in(b"ACACACA", 1, 12);
+    list_in(b"", 0, 2);
 }
 
 fn tables() {
-    let mut out = [7u16; 9];
-    table_on(b"ACAACACA", 8, &mut out[..]);
-    let mut out = [7u16; 9];
-    table_on(b"ACAACACA", 0, &mut out[..]);
-    let mut out = [7u16; 9];
-    table_on(b"ACAACACA", 9, &mut out[..]);
-    let mut out = [7u16; 2];
-    table_on(b"ACAACACA", 4294967295, &mut out[..]);
-}
-
-fn more_tables() {
-    let mut out = [7u16; 8];
-    table_on(b"ACAACACA", 3, &mut out[..]);
-    let mut out = [7u16; 7];
-    table_on(b"ACAACACA", 3, &mut out[..]);
-    let mut out = [7u16; 2];
-    table_on(b"", 1, &mut out[..]);
+    table_in(b"ACAACACA", 8, 9);
+    table_in(b"ACAACACA", 0, 9);
+    table_in(b"ACAACACA", 9, 9);
+    table_in(b"ACAACACA", 4294967295, 2);
+    table_in(b"ACAACACA", 3, 8);
+    table_in(b"ACAACACA", 3, 7);
+    table_in(b"", 1, 2);
 }
 
 fn logs() {
-    let mut out = [7u16; 85];
-    log_on(b"ACAACACA", &mut out[..]);
-    let mut out = [7u16; 83];
-    log_on(b"ACAACACA", &mut out[..]);
-    let mut out = [7u16; 27];
-    log_on(b"AAAA", &mut out[..]);
-    let mut out = [7u16; 28];
-    log_on(b"ACGT", &mut out[..]);
-    let mut out = [7u16; 2];
-    log_on(b"A", &mut out[..]);
-    let mut out = [7u16; 1];
-    log_on(b"", &mut out[..]);
+    log_in(b"ACAACACA", 85);
+    log_in(b"ACAACACA", 83);
+    log_in(b"AAAA", 27);
+    log_in(b"ACGT", 28);
+    log_in(b"A", 2);
+    log_in(b"", 1);
 }
 
 // R6's log
@@ -254,41 +209,36 @@ fn cut() -> [u16; 32] {
     ]
 }
 
-fn replays() {
-    let good = own();
-    let mut out = [7u16; 9];
-    replay_on(b"ACAACACA", &good[..], 1, &mut out[..]);
-    let mut out = [7u16; 8];
-    replay_on(b"ACAACACA", &good[..], 3, &mut out[..]);
-    let mut out = [7u16; 8];
-    replay_on(b"ACAACACA", &good[..], 4, &mut out[..]);
-    let mut out = [7u16; 8];
-    replay_on(b"ACAACACA", &good[..], 5, &mut out[..]);
-    let mut out = [7u16; 8];
-    replay_on(b"ACAACACA", &good[..], 0, &mut out[..]);
+fn own_replays(read: &[u8], log: &[u16]) {
+    replay_in(read, log, 1, 9);
+    replay_in(read, log, 3, 8);
+    replay_in(read, log, 4, 8);
+    replay_in(read, log, 5, 8);
+    replay_in(read, log, 0, 8);
 }
 
-fn damaged() {
+// a log with two numbers left over, and one in which a position moves twice at one width
+fn damaged_replays(read: &[u8], short: &[u16], twice: &[u16]) {
+    replay_in(read, short, 4, 8);
+    replay_in(read, twice, 1, 8);
+    replay_in(read, twice, 1, 7);
+    replay_in(read, twice, 5, 7);
+}
+
+fn replays() {
+    let log = own();
     let short = cut();
-    let mut out = [7u16; 8];
-    replay_on(b"ACAACACA", &short[..], 4, &mut out[..]);
     let mut twice = own();
     twice[5] = 2;
-    let mut out = [7u16; 8];
-    replay_on(b"ACAACACA", &twice[..], 1, &mut out[..]);
-    let mut out = [7u16; 7];
-    replay_on(b"ACAACACA", &twice[..], 1, &mut out[..]);
-    let mut out = [7u16; 7];
-    replay_on(b"ACAACACA", &twice[..], 5, &mut out[..]);
+    own_replays(b"ACAACACA", &log[..]);
+    damaged_replays(b"ACAACACA", &short[..], &twice[..]);
 }
 
 // a log that is no read's own
 fn foreign() {
     let log = [1u16, 8, 1, 1, 8, 7, 3, 1, 1];
-    let mut out = [7u16; 8];
-    replay_on(b"AAAAAAAA", &log[..], 3, &mut out[..]);
-    let mut out = [7u16; 8];
-    replay_on(b"AAAAAAAA", &log[..], 4, &mut out[..]);
+    replay_in(b"AAAAAAAA", &log[..], 3, 8);
+    replay_in(b"AAAAAAAA", &log[..], 4, 8);
 }
 
 fn claims() {
@@ -323,7 +273,7 @@ fn moved(width: u16, name: u16, position: u16) {
 
 // prints the entry at a place, and answers the next
 fn taken(log: &[u16], at: usize) -> usize {
-    let t = reader::take_at(log, at);
+    let t = call_reader::call_once(log, at);
     let e = t.entry;
     entry(e);
     t.at
@@ -343,31 +293,31 @@ fn walks() {
 // the answers alone
 fn long_lists(within: &[u8], over: &[u8]) {
     let mut out = [7u16; 30000];
-    listed(lister::list(within, 0, &mut out[..]));
+    answer(call_answers::listed(lister::list(within, 0, &mut out[..])));
     let mut out = [7u16; 3];
-    listed(lister::list(within, 1, &mut out[..]));
+    answer(call_answers::listed(lister::list(within, 1, &mut out[..])));
     let mut out = [7u16; 1];
-    listed(lister::list(over, 2, &mut out[..]));
+    answer(call_answers::listed(lister::list(over, 2, &mut out[..])));
 }
 
 fn long_logs(within: &[u8], over: &[u8]) {
     let mut out = [7u16; 29970];
-    logged(lister::log(within, &mut out[..]));
+    answer(call_answers::logged(lister::log(within, &mut out[..])));
     let mut out = [7u16; 29969];
-    logged(lister::log(within, &mut out[..]));
+    answer(call_answers::logged(lister::log(within, &mut out[..])));
     let mut out = [7u16; 1];
-    logged(lister::log(over, &mut out[..]));
+    answer(call_answers::logged(lister::log(over, &mut out[..])));
 }
 
 fn long_tables(within: &[u8], over: &[u8]) {
     let mut out = [7u16; 1000];
-    tabled(lister::group_table(within, 1000, &mut out[..]));
+    answer(call_answers::tabled(lister::group_table(within, 1000, &mut out[..])));
     let mut out = [7u16; 1];
-    tabled(lister::group_table(over, 0, &mut out[..]));
+    answer(call_answers::tabled(lister::group_table(over, 0, &mut out[..])));
     let mut out = [7u16; 1];
     let log = [9u16; 1];
-    replayed(lister::replay(over, &log[..], 0, &mut out[..]));
-    claimed(lister::claim(over, 1, 1, 1001));
+    answer(call_answers::replayed(lister::replay(over, &log[..], 0, &mut out[..])));
+    answer(call_answers::claimed(lister::claim(over, 1, 1, 1001)));
 }
 
 // 1,000 bytes pass, 1,001 give refusal 1 before any other
@@ -392,22 +342,16 @@ fn count_up(read: &mut [u8]) {
 fn bytes() {
     let mut read = [0u8; 256];
     count_up(&mut read[..]);
-    let mut out = [7u16; 3];
-    list_on(&read[..], 0, &mut out[..]);
-    let mut out = [7u16; 257];
-    table_on(&read[..], 1, &mut out[..]);
-    let mut out = [7u16; 6885];
-    log_on(&read[..], &mut out[..]);
+    list_in(&read[..], 0, 3);
+    table_in(&read[..], 1, 257);
+    log_in(&read[..], 6885);
 }
 
 fn main() {
     lists();
-    more_lists();
     tables();
-    more_tables();
     logs();
     replays();
-    damaged();
     foreign();
     claims();
     walks();

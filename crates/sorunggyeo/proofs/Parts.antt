@@ -9,7 +9,7 @@ use lib.ListN.{length, take, drop, length-drop}
 use lib.Seq.{length-take-le}
 use Rattle.words.specs.Calls.{shown, motif, motifFrom}
 use Rattle.words.proofs.Tests.{either}
-use Rattle.claims.proofs.Motifs.{shown-inside}
+use Rattle.call_claims.proofs.Motifs.{shown-inside}
 use Rattle.sorunggyeo.specs.Plain.{motifPart}
 
 module _ (x : List ℕ) (i p e : ℕ) where

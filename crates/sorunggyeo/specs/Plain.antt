@@ -1,18 +1,12 @@
--- What the calls answer as C has it: numbers side by side, in document 01's own numbers.
+-- What the motif and the log reader give as C has it: numbers side by side.
 use Prim.Native.Nat.{ℕ}
 use mathlib.Core.List.{List}
-use lib.ListN.{length, getD}
-use Rattle.words.specs.Answers.{Answer as Says}
+use lib.ListN.{length}
 use Rattle.words.specs.Calls.{motif, motifFrom}
 use Rattle.words.specs.declared.Entry.{Entry}
 use Rattle.words.specs.declared.Taken.{Taken}
-use Rattle.sorunggyeo.specs.declared.Answer.{Answer}
 use Rattle.sorunggyeo.specs.declared.Part.{Part}
 use Rattle.sorunggyeo.specs.declared.Move.{Move}
-
--- an answer: its number, 0 for success and else the refusal's, and what is returned with it
-unfoldable pub plain : Says → Answer
-plain a = record { number = a .number; value = getD (a .values) 0 0 }
 
 -- the motif of a claim: where it starts in the read, counted from 0, and how many bytes it has
 unfoldable pub motifPart : List ℕ → ℕ → ℕ → ℕ → Part

@@ -1,26 +1,16 @@
 // The public calls of document 01 for C, and for all that calls C: `rt staticlib sorunggyeo` makes the archive, c/sorunggyeo.h declares them.
 // A slice is a pointer and a count. Each call promises what the same call of the library does, by the same definitions: `plain` puts an
-// answer into document 01's number (0 for success, else the refusal) and value, and the slice afterwards is a definition of the inputs.
+// answer into document 01's number (0 for success, else the refusal) and values, and the slice afterwards is a definition of the inputs.
 // None has a `requires`.
 ghost use mathlib.Core.Path.{_≡_};
-ghost use Rattle.words.specs.Answers.{listedSays, tabledSays, loggedSays, replayedSays, claimedSays};
 ghost use Rattle.words.specs.Calls.{listAnswer, listLeaves, tableAnswer, tableLeaves, logAnswer, logLeaves};
 ghost use Rattle.words.specs.Calls.{replayAnswer, replayLeaves, claimAnswer, readerTakes};
-ghost use Rattle.sorunggyeo.specs.Plain.{plain, motifPart, plainMove};
+ghost use Rattle.call_answers.specs.Plain.{plain};
+ghost use Rattle.sorunggyeo.specs.Plain.{motifPart, plainMove};
+use call_answers::Answer;
 use words::Claimed;
 use words::Entry;
-use words::Listed;
-use words::Logged;
-use words::Replayed;
-use words::Tabled;
 use words::Taken;
-
-// An answer: its number, 0 for success and else the refusal's, and what is returned with it.
-#[repr(C)]
-pub struct Answer {
-    pub number: u32,
-    pub value: u64,
-}
 
 // A part of a read: where it starts, counted from 0, and how many bytes it has.
 #[repr(C)]
@@ -39,79 +29,7 @@ pub struct Move {
     pub position: u16,
 }
 
-// ---- answers in numbers
-
-fn success(value: usize) -> Answer
-    ensures { λ r. ⌜ r ≡ record { number = 0; value = value } ⌝ }
-{
-    Answer {
-        number: 0,
-        value: value as u64,
-    }
-}
-
-fn refusal(number: u32, value: usize) -> Answer
-    ensures { λ r. ⌜ r ≡ record { number = number; value = value } ⌝ }
-{
-    Answer {
-        number,
-        value: value as u64,
-    }
-}
-
-fn listed(a: Listed) -> Answer
-    ensures { λ r. ⌜ r ≡ plain (listedSays a) ⌝ }
-{
-    match a {
-        Listed::Lines(count) => success(count),
-        Listed::TooLong(long) => refusal(1, long),
-        Listed::BadMode(mode) => refusal(2, mode as usize),
-        Listed::NoRoom(count) => refusal(3, count),
-    }
-}
-
-fn tabled(a: Tabled) -> Answer
-    ensures { λ r. ⌜ r ≡ plain (tabledSays a) ⌝ }
-{
-    match a {
-        Tabled::Names(count) => success(count),
-        Tabled::TooLong(long) => refusal(1, long),
-        Tabled::BadWidth(width) => refusal(2, width as usize),
-        Tabled::NoRoom(needed) => refusal(4, needed),
-    }
-}
-
-fn logged(a: Logged) -> Answer
-    ensures { λ r. ⌜ r ≡ plain (loggedSays a) ⌝ }
-{
-    match a {
-        Logged::Moves(count) => success(count),
-        Logged::TooLong(long) => refusal(1, long),
-        Logged::NoRoom(needed) => refusal(4, needed),
-    }
-}
-
-fn replayed(a: Replayed) -> Answer
-    ensures { λ r. ⌜ r ≡ plain (replayedSays a) ⌝ }
-{
-    match a {
-        Replayed::Names(count) => success(count),
-        Replayed::TooLong(long) => refusal(1, long),
-        Replayed::BadWidth(width) => refusal(2, width as usize),
-        Replayed::NoRoom(needed) => refusal(4, needed),
-        Replayed::BadEntry(index) => refusal(5, index),
-    }
-}
-
-fn claimed(a: Claimed) -> Answer
-    ensures { λ r. ⌜ r ≡ plain (claimedSays a) ⌝ }
-{
-    match a {
-        Claimed::Yes => success(1),
-        Claimed::No => success(0),
-        Claimed::TooLong(long) => refusal(1, long),
-    }
-}
+// ---- an entry in numbers
 
 fn taken(t: Taken) -> Move
     ensures { λ r. ⌜ r ≡ plainMove t ⌝ }
@@ -147,7 +65,7 @@ pub extern "C" fn sorunggyeo_list(read: &[u8], mode: u32, list: &mut [u16]) -> A
     ensures { λ r. ⌜ (r ≡ plain (listAnswer (now (read .entry)) mode (now (list .entry))))
         × (now (list .exit) ≡ listLeaves (now (read .entry)) mode (now (list .entry))) ⌝ }
 {
-    listed(lists::list(read, mode, list))
+    call_answers::listed(call_lists::list(read, mode, list))
 }
 
 #[no_mangle]
@@ -155,7 +73,7 @@ pub extern "C" fn sorunggyeo_group_table(read: &[u8], width: u32, table: &mut [u
     ensures { λ r. ⌜ (r ≡ plain (tableAnswer (now (read .entry)) width (now (table .entry))))
         × (now (table .exit) ≡ tableLeaves (now (read .entry)) width (now (table .entry))) ⌝ }
 {
-    tabled(tables::group_table(read, width, table))
+    call_answers::tabled(call_tables::group_table(read, width, table))
 }
 
 #[no_mangle]
@@ -163,7 +81,7 @@ pub extern "C" fn sorunggyeo_log(read: &[u8], log: &mut [u16]) -> Answer
     ensures { λ r. ⌜ (r ≡ plain (logAnswer (now (read .entry)) (now (log .entry))))
         × (now (log .exit) ≡ logLeaves (now (read .entry)) (now (log .entry))) ⌝ }
 {
-    logged(logs::log(read, log))
+    call_answers::logged(call_logs::log(read, log))
 }
 
 #[no_mangle]
@@ -176,14 +94,14 @@ pub extern "C" fn sorunggyeo_replay(
     ensures { λ r. ⌜ (r ≡ plain (replayAnswer (now (read .entry)) (now (log .entry)) width (now (table .entry))))
         × (now (table .exit) ≡ replayLeaves (now (read .entry)) (now (log .entry)) width (now (table .entry))) ⌝ }
 {
-    replayed(replays::replay(read, log, width, table))
+    call_answers::replayed(call_replays::replay(read, log, width, table))
 }
 
 #[no_mangle]
 pub extern "C" fn sorunggyeo_claim(read: &[u8], start: u32, period: u32, copies: u32) -> Answer
     ensures { λ r. ⌜ r ≡ plain (claimAnswer (now (read .entry)) start period copies) ⌝ }
 {
-    claimed(claims::claim(read, start, period, copies))
+    call_answers::claimed(call_claims::claim(read, start, period, copies))
 }
 
 // The part is named by its place: C takes it as the read's pointer and `from`.
@@ -191,7 +109,7 @@ pub extern "C" fn sorunggyeo_claim(read: &[u8], start: u32, period: u32, copies:
 pub extern "C" fn sorunggyeo_motif(read: &[u8], start: u32, period: u32, copies: u32) -> Part
     ensures { λ r. ⌜ r ≡ motifPart (now (read .entry)) start period copies ⌝ }
 {
-    if let Claimed::Yes = claims::claim(read, start, period, copies) {
+    if let Claimed::Yes = call_claims::claim(read, start, period, copies) {
         return Part {
             from: start as usize - 1,
             count: period as usize,
@@ -205,5 +123,5 @@ pub extern "C" fn sorunggyeo_motif(read: &[u8], start: u32, period: u32, copies:
 pub extern "C" fn sorunggyeo_next(log: &[u16], at: usize) -> Move
     ensures { λ r. ⌜ r ≡ plainMove (readerTakes (now (log .entry)) at) ⌝ }
 {
-    taken(reader::take_at(log, at))
+    taken(call_reader::take_at(log, at))
 }

@@ -29,7 +29,7 @@ fn names(name: &[u16; 1000], n: u16)
     let mut i: u16 = 0;
     while i < n {
         i += 1;
-        spaced(slots::load(name, i));
+        spaced(step_slots::load(name, i));
     }
 }
 
@@ -37,7 +37,7 @@ fn names(name: &[u16; 1000], n: u16)
 fn flagged(small: &[u16; 1000], i: u16)
     requires { ⌜ (1 ≤ i) × (i ≤ 1000) ⌝ }
 {
-    if slots::load(small, i) == 1 {
+    if step_slots::load(small, i) == 1 {
         spaced(i);
     }
 }

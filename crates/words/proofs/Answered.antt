@@ -5,16 +5,17 @@ use mathlib.Core.List.{List, [], _∷_}
 use mathlib.Core.Path.{_≡_, refl}
 use lib.ListN.{replicate}
 use Rattle.words.specs.Range.{first, every, sum, count, gather, cells, column, leader}
-use Rattle.words.specs.Rows.{rows}
+use Rattle.words.specs.Rows.{rows, cell}
+use Rattle.words.specs.ByPeriod.{rowIf, rowsAt, byPeriod}
 use Rattle.words.specs.Reads.{at, letter, fits, stretch, same, alike}
 use Rattle.words.specs.Repeats.{stands, primitive, repeats, leads, copies}
-use Rattle.words.specs.Lists.{lineOf, lineSize, wanted, line, linesAt, lines, lineCount}
+use Rattle.words.specs.Lists.{lineOf, lineSize, lineAt, listed, linesAt, lines, lineCount, inMode}
 use Rattle.words.specs.Groups.{share, name, table, size, beats, big, allSmall, partsSmall, smalls}
-use Rattle.words.specs.Moves.{topOf, top, moveOf, moveAt, movesOf, movesIn, moves, log, log2, M}
-use Rattle.words.specs.Replay.{under, stays, after, replayed, replay}
-use Rattle.words.specs.Logs.{widthOf, nameOf, placeOf, within, before, moved, good, firstBad, wellFormed}
+use Rattle.words.specs.Moves.{topOf, top, moveOf, moveSize, widthCell, widthOf, nameOf, placeOf, moveAt, movesOf, movesIn, moves, log, log2, M}
+use Rattle.words.specs.Replay.{moving, under, stays, after, replayed, replay}
+use Rattle.words.specs.Logs.{within, before, moved, good, firstBad, wellFormed}
 use Rattle.words.specs.Answers.{success, refusal}
-use Rattle.words.specs.Calls.{refuse, tooLong, leaves, listAnswer, listLeaves, tableAnswer, tableLeaves, logAnswer, logLeaves, replayAnswer, replayLeaves, claimAnswer, shown, motifFrom, motif, readerTakes}
+use Rattle.words.specs.Calls.{refuse, tooLong, afterwards, listAfterwards, listAnswer, listLeaves, tableAnswer, tableLeaves, logAnswer, logLeaves, replayAnswer, replayLeaves, claimAnswer, shown, motifFrom, motif, readerTakes}
 use Rattle.words.specs.declared.Entry.{Entry}
 use Rattle.words.proofs.Known.{A, C, ACAACACA}
 
@@ -49,7 +50,7 @@ pub record Answered : Type 0 where
   pub reader : (readerTakes twice 1 ≡ record { entry = Entry.Move 1 1 2; at = 2 }) × (readerTakes (1 ∷ 2 ∷ []) 0 ≡ record { entry = Entry.Ended; at = 0 }) × (readerTakes twice 9 ≡ record { entry = Entry.Ended; at = 9 })
 
 pub answered : Answered
-unfolding first every sum count gather cells column leader rows at letter fits stretch same alike stands primitive repeats leads copies lineOf lineSize wanted line linesAt lines lineCount share name table size beats big allSmall partsSmall smalls topOf top moveOf moveAt movesOf movesIn moves log log2 M under stays after replayed replay widthOf nameOf placeOf within before moved good firstBad wellFormed success refusal refuse tooLong leaves listAnswer listLeaves tableAnswer tableLeaves logAnswer logLeaves replayAnswer replayLeaves claimAnswer shown motifFrom motif readerTakes
+unfolding first every sum count gather cells column leader rows cell at letter fits stretch same alike stands primitive repeats leads copies rowIf rowsAt byPeriod lineOf lineSize lineAt listed linesAt lines inMode lineCount share name table size beats big allSmall partsSmall smalls topOf top moveOf moveSize widthCell widthOf nameOf placeOf moveAt movesOf movesIn moves log log2 M moving under stays after replayed replay within before moved good firstBad wellFormed success refusal refuse tooLong afterwards listAfterwards listAnswer listLeaves tableAnswer tableLeaves logAnswer logLeaves replayAnswer replayLeaves claimAnswer shown motifFrom motif readerTakes
 answered =
     record {
       list-passes = (refl, refl);

@@ -4,12 +4,13 @@ use mathlib.Core.Bool.{true, false}
 use mathlib.Core.List.{List, [], _∷_}
 use mathlib.Core.Path.{_≡_, refl}
 use Rattle.words.specs.Range.{first, every, sum, count, gather, cells, column, leader}
-use Rattle.words.specs.Rows.{rows}
+use Rattle.words.specs.Rows.{rows, cell}
+use Rattle.words.specs.ByPeriod.{rowIf, rowsAt, byPeriod}
 use Rattle.words.specs.Reads.{at, letter, fits, stretch, same, alike}
 use Rattle.words.specs.Repeats.{stands, primitive, repeats, leads, copies}
-use Rattle.words.specs.Lists.{lineOf, lineSize, wanted, line, linesAt, lines}
+use Rattle.words.specs.Lists.{lineOf, lineSize, lineAt, listed, linesAt, lines, inMode}
 use Rattle.words.specs.Groups.{share, name, table, size, beats, big, allSmall, partsSmall, smalls}
-use Rattle.words.specs.Moves.{topOf, top, moveOf, moveAt, movesOf, movesIn, moves, log, log2, M}
+use Rattle.words.specs.Moves.{topOf, top, moveOf, moveSize, widthCell, widthOf, nameOf, placeOf, moveAt, movesOf, movesIn, moves, log, log2, M}
 
 -- the letters of the reads below
 abbrev pub A : ℕ
@@ -35,16 +36,16 @@ ACACACAC = A ∷ C ∷ A ∷ C ∷ A ∷ C ∷ A ∷ C ∷ []
 
 -- what holds of four letters that are all the same
 pub record Four (x : List ℕ) : Type 0 where
-  pub full : lines x 0 ≡ 1 ∷ 1 ∷ 4 ∷ 2 ∷ 1 ∷ 3 ∷ 3 ∷ 1 ∷ 2 ∷ []
-  pub leading : lines x 1 ≡ 1 ∷ 1 ∷ 4 ∷ []
+  pub full : lines x (inMode x 0) ≡ 1 ∷ 1 ∷ 4 ∷ 2 ∷ 1 ∷ 3 ∷ 3 ∷ 1 ∷ 2 ∷ []
+  pub leading : lines x (inMode x 1) ≡ 1 ∷ 1 ∷ 4 ∷ []
   pub moved : log x ≡ 1 ∷ 1 ∷ 1 ∷ 1 ∷ 1 ∷ 2 ∷ 1 ∷ 1 ∷ 3 ∷ []
 
 pub record Known : Type 0 where
-  pub R1 : (lines [] 0 ≡ []) × (log [] ≡ [])
-  pub R2 : (lines (A ∷ []) 0 ≡ []) × (log (A ∷ []) ≡ [])
-  pub R3 : (lines (A ∷ A ∷ []) 0 ≡ 1 ∷ 1 ∷ 2 ∷ []) × (log (A ∷ A ∷ []) ≡ [])
+  pub R1 : (lines [] (inMode [] 0) ≡ []) × (log [] ≡ [])
+  pub R2 : (lines (A ∷ []) (inMode (A ∷ []) 0) ≡ []) × (log (A ∷ []) ≡ [])
+  pub R3 : (lines (A ∷ A ∷ []) (inMode (A ∷ A ∷ []) 0) ≡ 1 ∷ 1 ∷ 2 ∷ []) × (log (A ∷ A ∷ []) ≡ [])
   pub R4 : Four (A ∷ A ∷ A ∷ A ∷ [])
-  pub R5 : (lines ACAACACA 0 ≡ 3 ∷ 1 ∷ 2 ∷ 4 ∷ 2 ∷ 2 ∷ 5 ∷ 2 ∷ 2 ∷ 1 ∷ 3 ∷ 2 ∷ []) × (lines ACAACACA 1 ≡ lines ACAACACA 0)
+  pub R5 : (lines ACAACACA (inMode ACAACACA 0) ≡ 3 ∷ 1 ∷ 2 ∷ 4 ∷ 2 ∷ 2 ∷ 5 ∷ 2 ∷ 2 ∷ 1 ∷ 3 ∷ 2 ∷ []) × (lines ACAACACA (inMode ACAACACA 1) ≡ lines ACAACACA (inMode ACAACACA 0))
   pub R6 :
       (log ACAACACA
       ≡ 1 ∷ 1 ∷ 2 ∷ 1 ∷ 1 ∷ 3 ∷ 1 ∷ 1 ∷ 5 ∷ 1 ∷ 1 ∷ 7 ∷ 1 ∷ 2 ∷ 1 ∷ 1 ∷ 2 ∷ 4 ∷ 1 ∷ 2 ∷ 6
@@ -53,15 +54,15 @@ pub record Known : Type 0 where
       × (M 8 ≡ 28)
   pub R7 : table ACAACACA 3 ≡ 1 ∷ 2 ∷ 3 ∷ 1 ∷ 5 ∷ 1 ∷ 7 ∷ 8 ∷ []
   pub R8 :
-      (lines (A ∷ C ∷ A ∷ C ∷ A ∷ C ∷ A ∷ []) 0 ≡ 1 ∷ 2 ∷ 3 ∷ 2 ∷ 2 ∷ 3 ∷ 3 ∷ 2 ∷ 2 ∷ 4 ∷ 2 ∷ 2 ∷ [])
-      × (lines (A ∷ C ∷ A ∷ C ∷ A ∷ C ∷ A ∷ []) 1 ≡ 1 ∷ 2 ∷ 3 ∷ 2 ∷ 2 ∷ 3 ∷ [])
-  pub R9 : lines (A ∷ C ∷ G ∷ T ∷ A ∷ C ∷ G ∷ T ∷ []) 0 ≡ 1 ∷ 4 ∷ 2 ∷ []
-  pub R10 : (lines (A ∷ C ∷ G ∷ T ∷ []) 0 ≡ []) × (log (A ∷ C ∷ G ∷ T ∷ []) ≡ 1 ∷ 2 ∷ 1 ∷ 1 ∷ 3 ∷ 2 ∷ 1 ∷ 4 ∷ 3 ∷ [])
+      (lines (A ∷ C ∷ A ∷ C ∷ A ∷ C ∷ A ∷ []) (inMode (A ∷ C ∷ A ∷ C ∷ A ∷ C ∷ A ∷ []) 0) ≡ 1 ∷ 2 ∷ 3 ∷ 2 ∷ 2 ∷ 3 ∷ 3 ∷ 2 ∷ 2 ∷ 4 ∷ 2 ∷ 2 ∷ [])
+      × (lines (A ∷ C ∷ A ∷ C ∷ A ∷ C ∷ A ∷ []) (inMode (A ∷ C ∷ A ∷ C ∷ A ∷ C ∷ A ∷ []) 1) ≡ 1 ∷ 2 ∷ 3 ∷ 2 ∷ 2 ∷ 3 ∷ [])
+  pub R9 : lines (A ∷ C ∷ G ∷ T ∷ A ∷ C ∷ G ∷ T ∷ []) (inMode (A ∷ C ∷ G ∷ T ∷ A ∷ C ∷ G ∷ T ∷ []) 0) ≡ 1 ∷ 4 ∷ 2 ∷ []
+  pub R10 : (lines (A ∷ C ∷ G ∷ T ∷ []) (inMode (A ∷ C ∷ G ∷ T ∷ []) 0) ≡ []) × (log (A ∷ C ∷ G ∷ T ∷ []) ≡ 1 ∷ 2 ∷ 1 ∷ 1 ∷ 3 ∷ 2 ∷ 1 ∷ 4 ∷ 3 ∷ [])
   pub R11 : (repeats ACACACAC 1 2 4 ≡ true) × (repeats ACACACAC 1 4 2 ≡ false) × (repeats ACACACAC 1 2 3 ≡ false)
   pub R12 : Four (N ∷ N ∷ N ∷ N ∷ [])
 
 pub known : Known
-unfolding first every sum count gather cells column leader rows at letter fits stretch same alike stands primitive repeats leads copies lineOf lineSize wanted line linesAt lines share name table size beats big allSmall partsSmall smalls topOf top moveOf moveAt movesOf movesIn moves log log2 M
+unfolding first every sum count gather cells column leader rows cell at letter fits stretch same alike stands primitive repeats leads copies rowIf rowsAt byPeriod lineOf lineSize lineAt listed linesAt lines inMode share name table size beats big allSmall partsSmall smalls topOf top moveOf moveSize widthCell widthOf nameOf placeOf moveAt movesOf movesIn moves log log2 M
 known =
     record {
       R1 = (refl, refl);

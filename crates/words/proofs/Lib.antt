@@ -1,13 +1,14 @@
 pub mod Tests
 pub mod Ranges
 pub mod Rows
-pub mod Under
 pub mod Sums
 pub mod Leaders
 pub mod Stretches
 pub mod Groups
 pub mod Small
 pub mod Split
+pub mod MoveLayout
+pub mod Under
 pub mod Moves
 pub mod Replay
 pub mod Rule
@@ -17,6 +18,8 @@ pub mod Logs
 pub mod Periods
 pub mod Repeats
 pub mod LineLayout
+pub mod ByPeriod
+pub mod Searches
 pub mod Copies
 pub mod Lines
 pub mod Lists
@@ -24,4 +27,5 @@ pub mod Steps
 pub mod Stop
 pub mod Claims
 pub mod Known
+pub mod Afterwards
 pub mod Answered

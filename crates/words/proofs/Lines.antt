@@ -1,8 +1,8 @@
 -- The lines of one period, read off the distances at that width; document 000, Lemma 2, says which of them lead. Assumes nothing.
 use Prim.Native.Nat.{ℕ, zero, suc, _+_, _-_, _*_, _≤_, _<_}
-use mathlib.Core.Path.{_≡_, sym, ap, subst, _∙_}
+use mathlib.Core.Path.{_≡_, refl, sym, ap, subst, _∙_}
 use mathlib.Core.Logic.{_⊎_, inl, inr, ⊎-elim, _≢_}
-use mathlib.Core.Bool.{true, _&&_, not, cond}
+use mathlib.Core.Bool.{Bool, true, false, _&&_, not, cond}
 use mathlib.Core.List.{List, []}
 use native.Mathlib.Omega.{arith}
 use lib.ListN.{length}
@@ -11,14 +11,16 @@ use borrow.Author.Tests.{leb-true, le-leb, lt-leb, eqb-true, eq-eqb, ne-eqb}
 use Rattle.words.specs.Range.{gather}
 use Rattle.words.specs.Reads.{letter, alike}
 use Rattle.words.specs.Repeats.{primitive, leads, copies}
-use Rattle.words.specs.Lists.{lineOf, wanted, line, linesAt, lines}
+use Rattle.words.specs.ByPeriod.{rowIf, rowsAt}
+use Rattle.words.specs.Lists.{lineAt, listed, line, linesAt, lines}
 use Rattle.words.specs.Groups.{table, gap}
 use Rattle.words.specs.Moves.{top, topOf}
 use Rattle.words.proofs.Tests.{and-left, and-right, and-both, same-test, lt-or-ge}
-use Rattle.words.proofs.Ranges.{gather-none, gather-stop}
+use Rattle.words.proofs.Ranges.{gather-none}
+use Rattle.words.proofs.ByPeriod.{period-none, periods-end}
 use Rattle.words.proofs.Stretches.{Alike, alike-is, is-alike}
-use Rattle.words.proofs.Repeats.{Stands, Next, Repeat, primitive-is, is-primitive, next-of, prim-of, gap-next, next-gap, run-of}
-use Rattle.words.proofs.Copies.{copies-stand, copies-end, copies-run}
+use Rattle.words.proofs.Repeats.{Stands, Next, Repeat, primitive-is, is-primitive, next-of, prim-of, gap-next, next-gap, chain-of}
+use Rattle.words.proofs.Copies.{copies-stand, copies-end, copies-chain}
 
 module _ (x : List ℕ) where
   -- two copies or more of a primitive motif are a repeat
@@ -41,23 +43,32 @@ module _ (x : List ℕ) where
       once zero l m lm = ap (letter x) (omega arith)
       once (suc k) l m lm = absurd (omega arith)
 
-  -- a line starts where the distance is the period
-  starts : (i p : ℕ) → 1 ≤ i → i ≤ length x → 1 ≤ p → leb 2 (copies x i p) && primitive x i p ≡ eqb (gap (table x p) i) p
+  -- a repeat starts where the distance is the period
+  pub starts : (i p : ℕ) → 1 ≤ i → i ≤ length x → 1 ≤ p → leb 2 (copies x i p) && primitive x i p ≡ eqb (gap (table x p) i) p
   starts i p a b h =
       same-test (leb 2 (copies x i p) && primitive x i p) (eqb (gap (table x p) i) p)
       (λ t.
       let r : Repeat x i p (copies x i p) = copies-repeat i p a b h t in
-      eq-eqb (gap (table x p) i) p (ap (gap (table x p)) (omega arith) ∙ run-of x i p (copies x i p) r .gaps 0 (omega (arith, r .twice))))
+      eq-eqb (gap (table x p) i) p (ap (gap (table x p)) (omega arith) ∙ chain-of x i p (copies x i p) r .gaps 0 (omega (arith, r .twice))))
       (λ t.
       let e : gap (table x p) i ≡ p = eqb-true (gap (table x p) i) p t in
       let n : Next x p i = gap-next x p i h a e in
       and-both (leb 2 (copies x i p)) (primitive x i p)
-      (le-leb 2 (copies x i p) (omega (arith, copies-run x i p a h e, copies-some i p h n)))
+      (le-leb 2 (copies x i p) (omega (arith, copies-chain x i p a h e, copies-some i p h n)))
       (is-primitive x i p (prim-of x p i h n)))
 
-  pub line-gap : (mode p i : ℕ) → 1 ≤ i → i ≤ length x → 1 ≤ p → line x mode p i ≡ cond (eqb (gap (table x p) i) p && wanted x mode p i) (lineOf i p (copies x i p)) []
-  unfolding line
-  line-gap mode p i a b h = rw (starts i p a b h)
+  -- so a line does, if it is wanted
+  pub listed-gap : (wanted : ℕ → ℕ → Bool) (p i : ℕ) → 1 ≤ i → i ≤ length x → 1 ≤ p → listed x wanted p i ≡ eqb (gap (table x p) i) p && wanted p i
+  unfolding listed
+  listed-gap wanted p i a b h = rw (starts i p a b h)
+
+  pub lines-at-each : (wanted : ℕ → ℕ → Bool) (p : ℕ) → linesAt x wanted p ≡ gather (line x wanted p) (length x) 1
+  unfolding linesAt rowsAt line
+  lines-at-each wanted p = refl
+
+  pub line-gap : (wanted : ℕ → ℕ → Bool) (p i : ℕ) → 1 ≤ i → i ≤ length x → 1 ≤ p → line x wanted p i ≡ cond (eqb (gap (table x p) i) p && wanted p i) (lineAt x p i) []
+  unfolding line rowIf
+  line-gap wanted p i a b h = rw (listed-gap wanted p i a b h)
 
   -- document 000, Lemma 2: a repeat leads if the distance at i - p is not p
   pub leads-gap : (p i : ℕ) → 1 ≤ p → p < i → gap (table x p) i ≡ p → leads x i p ≡ not (eqb (gap (table x p) (i - p)) p)
@@ -81,24 +92,29 @@ module _ (x : List ℕ) where
       from : eqb (gap (table x p) (i - p)) p ≡ true → alike x p (i - p) i ≡ true
       from t = is-alike x p (i - p) i (λ k lk. gap-next x p (i - p) h (omega arith) (eqb-true (gap (table x p) (i - p)) p t) .0 .2 k lk ∙ ap (λ (v : ℕ). letter x (v + k)) back)
 
-  -- no line has a period above half of the read
-  pub line-none : (mode p i : ℕ) → 1 ≤ i → i ≤ length x → 1 ≤ p → gap (table x p) i ≢ p → line x mode p i ≡ []
-  line-none mode p i a b h ne = line-gap mode p i a b h ∙ rw (ne-eqb (gap (table x p) i) p ne)
+  -- no position has the distance p above half of the read
+  pub no-start : (p i : ℕ) → 1 ≤ p → length x < 2 * p → 1 ≤ i → gap (table x p) i ≢ p
+  no-start p i h l a e = omega (arith, gap-next x p i h a e .0 .1)
 
-  pub lines-at-none : (mode p : ℕ) → 1 ≤ p → ((i : ℕ) → 1 ≤ i → i ≤ length x → gap (table x p) i ≢ p) → linesAt x mode p ≡ []
+  -- where no position has the distance p, no line has the period p
+  listed-none : (wanted : ℕ → ℕ → Bool) (p i : ℕ) → 1 ≤ p → 1 ≤ i → i ≤ length x → gap (table x p) i ≢ p → listed x wanted p i ≡ false
+  listed-none wanted p i h a b ne = listed-gap wanted p i a b h ∙ rw (ne-eqb (gap (table x p) i) p ne)
+
+  pub lines-at-none : (wanted : ℕ → ℕ → Bool) (p : ℕ) → 1 ≤ p → ((i : ℕ) → 1 ≤ i → i ≤ length x → gap (table x p) i ≢ p) → linesAt x wanted p ≡ []
   unfolding linesAt
-  lines-at-none mode p h ne = gather-none (line x mode p) (length x) 1 (λ i a b. line-none mode p i a (omega arith) h (ne i a (omega arith)))
-
-  past-half : (mode p : ℕ) → 1 ≤ p → length x < 2 * p → linesAt x mode p ≡ []
-  past-half mode p h l = lines-at-none mode p h (λ i a b e. omega (arith, gap-next x p i h a e .0 .1))
+  lines-at-none wanted p h ne = period-none (length x) (listed x wanted) (lineAt x) p (λ i a b. listed-none wanted p i h a b (ne i a b))
 
   -- so the list is that of the periods 1 to top
-  pub lines-top : (mode : ℕ) → lines x mode ≡ gather (linesAt x mode) (top x) 1
-  unfolding lines top topOf
-  lines-top mode = go (lt-or-ge (length x) 1)
+  pub lines-top : (wanted : ℕ → ℕ → Bool) → lines x wanted ≡ gather (linesAt x wanted) (top x) 1
+  unfolding gather lines linesAt top topOf
+  lines-top wanted = go (lt-or-ge (length x) 1)
     where
-      go : (length x < 1) ⊎ (1 ≤ length x) → lines x mode ≡ gather (linesAt x mode) (top x) 1
+      go : (length x < 1) ⊎ (1 ≤ length x) → lines x wanted ≡ gather (linesAt x wanted) (top x) 1
       go (inl l) =
-          gather-none (linesAt x mode) (length x) 1 (λ p a b. absurd (omega arith))
-          ∙ sym (gather-none (linesAt x mode) (top x) 1 (λ p a b. past-half mode p a (omega arith)))
-      go (inr l) = gather-stop (linesAt x mode) (top x) (length x) 1 (omega arith) (λ p a b. past-half mode p (omega arith) (omega arith))
+          lines-empty l ∙ sym (gather-none (linesAt x wanted) (top x) 1 (λ p a b. lines-at-none wanted p a (λ i c d. absurd (omega arith))))
+        where
+          lines-empty : length x < 1 → lines x wanted ≡ []
+          lines-empty z = periods-end (length x) (listed x wanted) (lineAt x) 0 (omega arith) (λ p i a c d. absurd (omega arith))
+      go (inr l) =
+          periods-end (length x) (listed x wanted) (lineAt x) (top x) (omega arith)
+          (λ p i a c d. listed-none wanted p i (omega arith) c d (no-start p i (omega arith) (omega arith) c))

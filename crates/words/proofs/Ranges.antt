@@ -12,13 +12,23 @@ use Rattle.words.specs.Reads.{at}
 use Rattle.words.proofs.Tests.{clash}
 
 module _ (p : ℕ → Bool) where
-  first-hit : (d j : ℕ) → p j ≡ true → first p (suc d) j ≡ j
+  pub first-now : (d j : ℕ) → p j ≡ true → first p (suc d) j ≡ j
   unfolding first
-  first-hit d j e = rw (e, first)
+  first-now d j e = rw (e, first)
 
-  first-miss : (d j : ℕ) → p j ≡ false → first p (suc d) j ≡ first p d (suc j)
+  pub first-later : (d j : ℕ) → p j ≡ false → first p (suc d) j ≡ first p d (suc j)
   unfolding first
-  first-miss d j e = rw (e, first)
+  first-later d j e = rw (e, first)
+
+-- a range that starts one later
+pub first-shift : (p : ℕ → Bool) (d j : ℕ) → first p d (suc j) ≡ suc (first (λ k. p (suc k)) d j)
+unfolding first
+first-shift p zero j = refl
+first-shift p (suc d) j = go (p (suc j)) refl (first-shift p d (suc j))
+  where
+    go : (b : Bool) → p (suc j) ≡ b → first p d (suc (suc j)) ≡ suc (first (λ k. p (suc k)) d (suc j)) → first p (suc d) (suc j) ≡ suc (first (λ k. p (suc k)) (suc d) j)
+    go true e s = first-now p d (suc j) e ∙ ap suc (sym (first-now (λ k. p (suc k)) d j e))
+    go false e s = first-later p d (suc j) e ∙ s ∙ ap suc (sym (first-later (λ k. p (suc k)) d j e))
 
 -- r is the first number of the range that passes
 pub record Found (p : ℕ → Bool) (d j r : ℕ) : Type 0 where
@@ -33,9 +43,9 @@ found p zero j = record { low = omega arith; high = omega arith; pass = λ h. ab
 found p (suc d) j = go (p j) refl (found p d (suc j))
   where
     go : (b : Bool) → p j ≡ b → Found p d (suc j) (first p d (suc j)) → Found p (suc d) j (first p (suc d) j)
-    go true e f = rw (first-hit p d j e) (record { low = omega arith; high = omega arith; pass = λ h. e; least = λ k a b. absurd (omega arith) })
+    go true e f = rw (first-now p d j e) (record { low = omega arith; high = omega arith; pass = λ h. e; least = λ k a b. absurd (omega arith) })
     go false e f =
-        rw (first-miss p d j e)
+        rw (first-later p d j e)
         (record {
           low = omega (arith, f .low);
           high = omega (arith, f .high);
@@ -85,8 +95,8 @@ first-same p q zero j h = refl
 first-same p q (suc d) j h = go (p j) refl (h j (omega arith) (omega arith)) (first-same p q d (suc j) (λ k a b. h k (omega arith) (omega arith)))
   where
     go : (t : Bool) → p j ≡ t → p j ≡ q j → first p d (suc j) ≡ first q d (suc j) → first p (suc d) j ≡ first q (suc d) j
-    go true e s h = first-hit p d j e ∙ sym (first-hit q d j (sym s ∙ e))
-    go false e s h = first-miss p d j e ∙ h ∙ sym (first-miss q d j (sym s ∙ e))
+    go true e s h = first-now p d j e ∙ sym (first-now q d j (sym s ∙ e))
+    go false e s h = first-later p d j e ∙ h ∙ sym (first-later q d j (sym s ∙ e))
 
 pub gather-same : (f g : ℕ → List ℕ) (d j : ℕ) → ((k : ℕ) → j ≤ k → k < j + d → f k ≡ g k) → gather f d j ≡ gather g d j
 unfolding gather

@@ -253,7 +253,7 @@ module _ (x : List ℕ) where
       )
 
   -- the gaps at i, i + p, .. are p, as far as e copies reach
-  pub record Run (i p e : ℕ) : Type 0 where
+  pub record Chain (i p e : ℕ) : Type 0 where
     pub start : 1 ≤ i
     pub period : 1 ≤ p
     pub twice : 2 ≤ e
@@ -288,8 +288,8 @@ module _ (x : List ℕ) where
       first-place k l = let q : p * k ≡ p * 0 = ap (λ (v : ℕ). p * v) (omega arith) in omega arith
   stand-up i p (suc c) h = longer i p (suc c) (stand-up i p c (λ k l. h k (omega arith))) (h (suc c) (omega arith))
 
-  pub run-of : (i p e : ℕ) → Repeat i p e → Run i p e
-  run-of i p e r =
+  pub chain-of : (i p e : ℕ) → Repeat i p e → Chain i p e
+  chain-of i p e r =
       record {
         start = r .start;
         period = r .period;
@@ -303,10 +303,10 @@ module _ (x : List ℕ) where
             (longer i p (e - 1) (subst (λ (v : ℕ). Stands i p v) (omega (arith, r .twice)) (r .stand)) (gap-next p (i + p * (e - 1)) (r .period) (past i (p * (e - 1)) (r .start)) q .0)));
       }
 
-  pub of-run : (i p e : ℕ) → Run i p e → Repeat i p e
-  of-run i p zero r = absurd (omega (arith, r .twice))
-  of-run i p (suc zero) r = absurd (omega (arith, r .twice))
-  of-run i p (suc (suc c)) r =
+  pub of-chain : (i p e : ℕ) → Chain i p e → Repeat i p e
+  of-chain i p zero r = absurd (omega (arith, r .twice))
+  of-chain i p (suc zero) r = absurd (omega (arith, r .twice))
+  of-chain i p (suc (suc c)) r =
       record {
         start = r .start;
         period = r .period;
@@ -326,5 +326,5 @@ module _ (x : List ℕ) where
       prime = prim-of p i (r .period) here
 
   -- document 000, Lemma 1
-  pub lemma-one : (i p e : ℕ) → (repeats x i p e ≡ true) ↔ Run i p e
-  lemma-one i p e = (λ t. run-of i p e (repeat-is i p e t), λ r. is-repeat i p e (of-run i p e r))
+  pub lemma-one : (i p e : ℕ) → (repeats x i p e ≡ true) ↔ Chain i p e
+  lemma-one i p e = (λ t. chain-of i p e (repeat-is i p e t), λ r. is-repeat i p e (of-chain i p e r))

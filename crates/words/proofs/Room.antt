@@ -20,6 +20,7 @@ use Rattle.words.proofs.Sums.{sum-same, sum-le, sum-const, sum-zero, su
 use Rattle.words.proofs.Groups.{table-length, table-least, table-share, share-table, share-less}
 use Rattle.words.proofs.Small.{halves, falls, size-pos, size-le, table-refines}
 use Rattle.words.proofs.Split.{next-small}
+use Rattle.words.proofs.MoveLayout.{move-length}
 
 -- the logarithm: 2 ^ log2 n ≤ n < 2 ^ (log2 n + 1)
 below-pow : (n : ℕ) → n < 2 ^ n
@@ -47,12 +48,12 @@ log2-low n h = go (log2 n) refl
 -- the moves of a width, counted, over any table of least names
 module _ (t f : List ℕ) where
   at-length : (w s j : ℕ) → length (moveAt w t s j) ≡ moveSize * bit (eqb (at t j) s)
-  unfolding moveAt moveOf
+  unfolding moveAt
   at-length w s j = go (eqb (at t j) s)
     where
-      go : (b : Bool) → length (cond b (w ∷ s ∷ (j - 1) ∷ []) []) ≡ 3 * bit b
-      go true = refl
-      go false = refl
+      go : (b : Bool) → length (cond b (moveOf w s (j - 1)) []) ≡ moveSize * bit b
+      go true = omega (arith, move-length w s (j - 1))
+      go false = omega arith
 
   -- does position j count under the name s?
   counts : ℕ → ℕ → ℕ
@@ -66,15 +67,15 @@ module _ (t f : List ℕ) where
       go true =
           length-gather (moveAt w t s) (length t - 1) 2
           ∙ sum-same (λ j. length (moveAt w t s j)) (λ j. moveSize * bit (eqb (at t j) s)) (length t - 1) 2 (λ j a b. at-length w s j)
-      go false = sym (sum-zero (λ j. 0) (length t - 1) 2 (λ k a b. refl))
+      go false = sym (sum-zero (λ j. moveSize * 0) (length t - 1) 2 (λ k a b. omega arith))
 
   counts-other : (j s : ℕ) → s ≢ at t j → counts s j ≡ 0
   unfolding counts
   counts-other j s ne = rw (ne-eqb (at t j) s (λ q. ne (sym q))) (off (eqb (at f s) 1))
     where
       off : (b : Bool) → moveSize * bit (b && false) ≡ 0
-      off true = refl
-      off false = refl
+      off true = omega arith
+      off false = omega arith
 
   counts-own : (j : ℕ) → counts (at t j) j ≡ moveSize * bit (eqb (at f (at t j)) 1)
   unfolding counts
@@ -204,9 +205,7 @@ module _ (x : List ℕ) where
       omega (
         arith,
         log-length,
-        ap (λ (v : ℕ). moveSize * v) (by-width ∙ sum-swap (λ w j. isSmall j w) (top x - 1) 1 (length x - 1) 2),
-        sum-le (λ j. smallTimes j (top x - 1)) (λ j. 1 + log2 (length x)) (length x - 1) 2 (λ j a b. times-le (top x - 1) j (omega arith) (omega arith)),
-        sum-const (1 + log2 (length x)) (length x - 1) 2,
+        mul-le-mul-left moveSize total,
       )
     where
       by-width : sum (λ w. moveCountAt w) (top x - 1) 1 ≡ sum (λ w. sum (λ j. isSmall j w) (length x - 1) 2) (top x - 1) 1
@@ -214,4 +213,13 @@ module _ (x : List ℕ) where
           unfold isSmall moveCount count in (
           sum-same (λ w. moveCountAt w) (λ w. sum (λ j. isSmall j w) (length x - 1) 2) (top x - 1) 1
           (λ w a b. ap (λ (n : ℕ). sum (λ j. isSmall j w) (n - 1) 2) (table-length x w))
+          )
+
+      total : sum (λ w. moveCountAt w) (top x - 1) 1 ≤ (length x - 1) * (1 + log2 (length x))
+      total =
+          omega (
+            arith,
+            by-width ∙ sum-swap (λ w j. isSmall j w) (top x - 1) 1 (length x - 1) 2,
+            sum-le (λ j. smallTimes j (top x - 1)) (λ j. 1 + log2 (length x)) (length x - 1) 2 (λ j a b. times-le (top x - 1) j (omega arith) (omega arith)),
+            sum-const (1 + log2 (length x)) (length x - 1) 2,
           )

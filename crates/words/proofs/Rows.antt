@@ -9,13 +9,17 @@ use native.Mathlib.Nat.{add-div-left, mul-div-right, mul-add-div, zero-div, eq-o
 use lib.ListN.{length, getD, take, drop, length-append, length-drop}
 use lib.Seq.{getD-take, getD-drop, take-at, take-append-le, drop-append-le, drop-append-add}
 use Rattle.words.specs.Range.{gather}
-use Rattle.words.specs.Rows.{row, rows}
+use Rattle.words.specs.Rows.{rows, row, cell, part}
 use Rattle.words.proofs.Ranges.{append-nil}
 
 module _ (c : ℕ) where
   pub row-getD : (l : List ℕ) (k i : ℕ) → i < c → getD (row c l k) i 0 ≡ getD l (c * k + i) 0
   unfolding row
   row-getD l k i h = getD-take c (drop (c * k) l) i 0 h ∙ getD-drop (c * k) l i 0
+
+  pub row-cell : (l : List ℕ) (k j : ℕ) → j < c → getD (row c l k) j 0 ≡ cell c l k j
+  unfolding cell
+  row-cell l k j h = row-getD l k j h
 
   pub row-here : (r l : List ℕ) → length r ≡ c → row c (r ++ l) 0 ≡ r
   unfolding row

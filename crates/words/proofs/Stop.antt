@@ -1,4 +1,4 @@
--- Once no group is small, no later width has a small group, a move or a line, and every group is a single position: the lister may stop.
+-- Once no group is small, no later width has a small group, a move or a start, and every group is a single position: the lister may stop.
 -- Assumes nothing.
 use Prim.Native.Nat.{ℕ, zero, suc, _+_, _-_, _≤_, _<_}
 use mathlib.Core.Path.{_≡_, refl, sym, ap, subst, _∙_}
@@ -142,24 +142,23 @@ module _ (x : List ℕ) where
       gather-none (movesOf v (table x v) (smalls x v)) (length (table x v)) 1
       (λ s a b. rw (ne-eqb (at (smalls x v) s) 1 (stop-small w v h l q s a (omega (arith, table-length x v)))))
 
-  -- no later width has a line
-  pub stop-lines : (mode w v : ℕ) → 1 ≤ w → w ≤ v → Quiet w → linesAt x mode v ≡ []
-  stop-lines mode w v h l q = lines-at-none x mode v (omega arith) (λ i a b e. single i a e)
-    where
-      single : (i : ℕ) → 1 ≤ i → gap (table x v) i ≡ v → ⊥
-      single i a e =
-          let t = gap-next x v i (omega arith) a e .0 in
-          let in-read : i + v ≤ length x = omega (arith, t .1) in
-          omega (
-            arith,
-            share-table x v i (i + v) a (omega arith) (omega arith) in-read (inr t),
-            stop-single w v i h l q a (omega arith),
-            stop-single w v (i + v) h l q (omega arith) in-read,
-          )
+  -- no position of a later width has that width as its distance
+  pub stop-starts : (w v i : ℕ) → 1 ≤ w → w ≤ v → Quiet w → 1 ≤ i → gap (table x v) i ≢ v
+  stop-starts w v i h l q a e =
+      let t = gap-next x v i (omega arith) a e .0 in
+      let in-read : i + v ≤ length x = omega (arith, t .1) in
+      omega (
+        arith,
+        share-table x v i (i + v) a (omega arith) (omega arith) in-read (inr t),
+        stop-single w v i h l q a (omega arith),
+        stop-single w v (i + v) h l q (omega arith) in-read,
+      )
 
   -- so the list and the log end there
-  pub list-stops : (mode w : ℕ) → 1 ≤ w → w ≤ suc (top x) → Quiet w → lines x mode ≡ gather (linesAt x mode) (w - 1) 1
-  list-stops mode w h l q = lines-top x mode ∙ gather-stop (linesAt x mode) (w - 1) (top x) 1 (omega arith) (λ p a b. stop-lines mode w p h (omega arith) q)
+  pub list-stops : (wanted : ℕ → ℕ → Bool) (w : ℕ) → 1 ≤ w → w ≤ suc (top x) → Quiet w → lines x wanted ≡ gather (linesAt x wanted) (w - 1) 1
+  list-stops wanted w h l q =
+      lines-top x wanted
+      ∙ gather-stop (linesAt x wanted) (w - 1) (top x) 1 (omega arith) (λ p a b. lines-at-none x wanted p (omega arith) (λ i c d. stop-starts w p i h (omega arith) q c))
 
   pub log-stops : (w : ℕ) → 1 ≤ w → w ≤ top x → Quiet w → log x ≡ gather (moves x) (w - 1) 1
   unfolding log

@@ -24,7 +24,7 @@ unfoldable pub listedSays : Listed → Answer
 listedSays (Listed.Lines c) = success c
 listedSays (Listed.TooLong n) = refusal 1 n
 listedSays (Listed.BadMode m) = refusal 2 m
-listedSays (Listed.NoRoom c) = refusal 3 c
+listedSays (Listed.ListFull c) = refusal 3 c
 
 unfoldable pub tabledSays : Tabled → Answer
 tabledSays (Tabled.Names n) = success n

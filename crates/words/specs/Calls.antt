@@ -9,11 +9,11 @@ use Rattle.words.specs.Range.{bit}
 use Rattle.words.specs.Rows.{rows}
 use Rattle.words.specs.Reads.{most}
 use Rattle.words.specs.Repeats.{repeats}
-use Rattle.words.specs.Lists.{lineSize, lines, lineCount}
+use Rattle.words.specs.Lists.{lineSize, lines, lineCount, inMode}
 use Rattle.words.specs.Groups.{table}
-use Rattle.words.specs.Moves.{topOf, moveSize, log, M}
+use Rattle.words.specs.Moves.{topOf, moveSize, widthOf, nameOf, placeOf, log, M}
 use Rattle.words.specs.Replay.{replay}
-use Rattle.words.specs.Logs.{within, widthOf, nameOf, placeOf, firstBad, wellFormed}
+use Rattle.words.specs.Logs.{within, firstBad, wellFormed}
 use Rattle.words.specs.Answers.{Answer, success, refusal}
 use Rattle.words.specs.declared.Entry.{Entry}
 use Rattle.words.specs.declared.Taken.{Taken}
@@ -26,21 +26,24 @@ refuse t k v later = cond t (refusal k v) later
 unfoldable pub tooLong : List ℕ → Bool
 tooLong x = ltb most (length x)
 
--- a slice after a call: on success the front is what was made and the rest is as it was; all 0 on refusal 3; else unchanged
-unfoldable pub leaves : Answer → List ℕ → List ℕ → List ℕ
-leaves a made old =
-    cond (eqb (a .number) 0) (made ++ drop (length made) old) (cond (eqb (a .number) 3) (replicate (length old) 0) old)
+-- a lent slice afterwards: on success the front is what was made and the rest is as it was; on any refusal it is unchanged
+unfoldable pub afterwards : Answer → List ℕ → List ℕ → List ℕ
+afterwards a made old = cond (eqb (a .number) 0) (made ++ drop (length made) old) old
+
+-- the slice of a list afterwards: the same, but all 0 on refusal 3
+unfoldable pub listAfterwards : Answer → List ℕ → List ℕ → List ℕ
+listAfterwards a made old = cond (eqb (a .number) 3) (replicate (length old) 0) (afterwards a made old)
 
 -- the list of a read x in a mode, written to a slice
 unfoldable pub listAnswer : List ℕ → ℕ → List ℕ → Answer
 listAnswer x mode out =
     refuse (tooLong x) 1 (length x)
     (refuse (not (within 0 1 mode)) 2 mode
-    (refuse (ltb (rows lineSize out) (lineCount x mode)) 3 (lineCount x mode)
-    (success (lineCount x mode))))
+    (refuse (ltb (rows lineSize out) (lineCount x (inMode x mode))) 3 (lineCount x (inMode x mode))
+    (success (lineCount x (inMode x mode)))))
 
 unfoldable pub listLeaves : List ℕ → ℕ → List ℕ → List ℕ
-listLeaves x mode out = leaves (listAnswer x mode out) (lines x mode) out
+listLeaves x mode out = listAfterwards (listAnswer x mode out) (lines x (inMode x mode)) out
 
 -- the group table at a width
 unfoldable pub tableAnswer : List ℕ → ℕ → List ℕ → Answer
@@ -51,7 +54,7 @@ tableAnswer x w out =
     (success (length x))))
 
 unfoldable pub tableLeaves : List ℕ → ℕ → List ℕ → List ℕ
-tableLeaves x w out = leaves (tableAnswer x w out) (table x w) out
+tableLeaves x w out = afterwards (tableAnswer x w out) (table x w) out
 
 -- the log
 unfoldable pub logAnswer : List ℕ → List ℕ → Answer
@@ -61,7 +64,7 @@ logAnswer x out =
     (success (rows moveSize (log x))))
 
 unfoldable pub logLeaves : List ℕ → List ℕ → List ℕ
-logLeaves x out = leaves (logAnswer x out) (log x) out
+logLeaves x out = afterwards (logAnswer x out) (log x) out
 
 -- the replay of a log l up to a width
 unfoldable pub replayAnswer : List ℕ → List ℕ → ℕ → List ℕ → Answer
@@ -73,7 +76,7 @@ replayAnswer x l w out =
     (success (length x)))))
 
 unfoldable pub replayLeaves : List ℕ → List ℕ → ℕ → List ℕ → List ℕ
-replayLeaves x l w out = leaves (replayAnswer x l w out) (replay x l w) out
+replayLeaves x l w out = afterwards (replayAnswer x l w out) (replay x l w) out
 
 -- the claim check: 1 for yes, 0 for no
 unfoldable pub claimAnswer : List ℕ → ℕ → ℕ → ℕ → Answer

@@ -1,11 +1,11 @@
 -- Document 01, "Order of the list": the lines, by period, then by start.
 use Prim.Native.Nat.{ℕ}
-use mathlib.Core.Bool.{Bool, _&&_, _||_, cond}
+use mathlib.Core.Bool.{Bool, _&&_, _||_}
 use mathlib.Core.List.{List, [], _∷_}
 use lib.ListN.{length}
 use lib.Dec.{leb, eqb}
-use Rattle.words.specs.Range.{gather}
 use Rattle.words.specs.Rows.{rows}
+use Rattle.words.specs.ByPeriod.{rowIf, rowsAt, byPeriod}
 use Rattle.words.specs.Repeats.{primitive, leads, copies}
 
 -- the layout of a line: start, period, copies
@@ -16,22 +16,34 @@ lineOf i p e = i ∷ p ∷ e ∷ []
 unfoldable pub lineSize : ℕ
 lineSize = 3
 
--- does a repeat of this start and period belong in the list: any in mode 0, only a leading one in mode 1
-unfoldable pub wanted : List ℕ → ℕ → ℕ → ℕ → Bool
-wanted x mode p i = eqb mode 0 || leads x i p
+-- which number of a line is its period
+unfoldable pub periodCell : ℕ
+periodCell = 1
 
--- the line of start i and period p, if there is one
-unfoldable pub line : List ℕ → ℕ → ℕ → ℕ → List ℕ
-line x mode p i = let e = copies x i p in cond (leb 2 e && primitive x i p && wanted x mode p i) (lineOf i p e) []
+-- the line of the repeat of period p that starts at i
+unfoldable pub lineAt : List ℕ → ℕ → ℕ → List ℕ
+lineAt x p i = lineOf i p (copies x i p)
+
+-- is there a repeat of this period and start, and does it belong in the list? `wanted` is any test of both
+unfoldable pub listed : List ℕ → (ℕ → ℕ → Bool) → ℕ → ℕ → Bool
+listed x wanted p i = leb 2 (copies x i p) && primitive x i p && wanted p i
+
+-- the line of period p and start i, if it belongs in the list
+unfoldable pub line : List ℕ → (ℕ → ℕ → Bool) → ℕ → ℕ → List ℕ
+line x wanted = rowIf (listed x wanted) (lineAt x)
 
 -- the lines of period p, by start
-unfoldable pub linesAt : List ℕ → ℕ → ℕ → List ℕ
-linesAt x mode p = gather (line x mode p) (length x) 1
+unfoldable pub linesAt : List ℕ → (ℕ → ℕ → Bool) → ℕ → List ℕ
+linesAt x wanted = rowsAt (listed x wanted) (lineAt x) (length x)
 
 -- the list, by period
-unfoldable pub lines : List ℕ → ℕ → List ℕ
-lines x mode = gather (linesAt x mode) (length x) 1
+unfoldable pub lines : List ℕ → (ℕ → ℕ → Bool) → List ℕ
+lines x wanted = byPeriod (listed x wanted) (lineAt x) (length x)
 
 -- how many lines there are
-unfoldable pub lineCount : List ℕ → ℕ → ℕ
-lineCount x mode = rows lineSize (lines x mode)
+unfoldable pub lineCount : List ℕ → (ℕ → ℕ → Bool) → ℕ
+lineCount x wanted = rows lineSize (lines x wanted)
+
+-- what a mode wants: any repeat in mode 0, only a leading one in mode 1
+unfoldable pub inMode : List ℕ → ℕ → ℕ → ℕ → Bool
+inMode x mode p i = eqb mode 0 || leads x i p

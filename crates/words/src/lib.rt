@@ -7,7 +7,7 @@ pub enum Listed {
     Lines(usize),
     TooLong(usize),
     BadMode(u32),
-    NoRoom(usize),
+    ListFull(usize),
 }
 
 // What `group_table` answers: the names written, or a refusal.

@@ -1,9 +1,11 @@
 -- `bench_view::all` meets its contract: what is collected stays inside the buffer; the measure is the turns left. Assumes nothing.
 use Prim.Native.Nat.{_≤_}
 use mathlib.Core.Path.{_≡_}
+use native.Mathlib.Omega.{arith}
 use lib.ListN.{length}
 use borrow.Author.Needs.{needs}
-use Rattle.streams.specs.Cuts.{Within}
+use Rattle.text_streams.specs.Cuts.{Within}
+use Rattle.bench_view.proofs.Stepping.{bench-kept}
 use Rattle.bench_view.proofs.all.Statement.{statement}
 use Rattle.bench_view.proofs.all.Tie as tie
 
@@ -20,7 +22,11 @@ loop-holds : tie.Need-loop-holds Inv-loop μ-loop
 loop-holds c = search needs
 
 step-requires : tie.Need-step-requires Inv-loop μ-loop
-step-requires c κs = search needs
+step-requires c κs =
+    let u = c .before .before .before .before .before .before .before in
+    let s = u .before .before .before .before .before .before .before in
+    let i = u .loop .inv in
+    (i .6, bench-kept (s .pre .0) (i .1) (i .2) (i .3) (i .4), record { room = omega (arith, s .pre .1 .room, i .5); inside = i .7 })
 
 same-length : tie.Need-same-length Inv-loop μ-loop
 same-length c = search needs

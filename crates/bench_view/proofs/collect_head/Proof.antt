@@ -1,8 +1,8 @@
 -- `bench_view::collect_head` meets its contract: room is made for the longest first line, and the line is put there. Assumes nothing.
 use native.Mathlib.Omega.{arith}
 use borrow.Author.Needs.{needs}
-use Rattle.views.proofs.Bounds.{head-bound}
-use Rattle.bench_view.proofs.Adding.{text-room, text-adds}
+use Rattle.text_views.proofs.Bounds.{head-bound}
+use Rattle.bench_view.proofs.Collecting.{text-room, text-collects}
 use Rattle.bench_view.proofs.collect_head.Statement.{statement}
 use Rattle.bench_view.proofs.collect_head.Tie as tie
 
@@ -23,7 +23,7 @@ returns c =
     let u = c .before .before in
     let v = u .before .before in
     let s = v .before .before .before .before in
-    text-adds _ _ (head-bound _ (omega arith)) (omega arith) (v .room .ensures .0) (omega arith) (s .pre .1 .inside) (u .put-head .ensures)
+    text-collects _ _ (head-bound _ (omega arith)) (omega arith) (v .room .ensures .0) (omega arith) (s .pre .1 .inside) (u .put-head .ensures)
 
 pub collect-head-spec : {M : Type 1} → statement M
 collect-head-spec =

@@ -1,8 +1,8 @@
 -- `bench_view::collect_verdict` meets its contract: room is made for the longest last line, and the line is put there. Assumes nothing.
 use native.Mathlib.Omega.{arith}
 use borrow.Author.Needs.{needs}
-use Rattle.views.proofs.Bounds.{verdict-bound}
-use Rattle.bench_view.proofs.Adding.{text-room, text-adds}
+use Rattle.text_views.proofs.Bounds.{verdict-bound}
+use Rattle.bench_view.proofs.Collecting.{text-room, text-collects}
 use Rattle.bench_view.proofs.collect_verdict.Statement.{statement}
 use Rattle.bench_view.proofs.collect_verdict.Tie as tie
 
@@ -23,7 +23,7 @@ returns c =
     let u = c .before .before in
     let v = u .before .before in
     let s = v .before .before .before in
-    text-adds _ _ (verdict-bound _ (s .fits .w .fits)) (omega arith) (v .room .ensures .0) (omega arith) (s .pre .inside) (u .put-verdict .ensures)
+    text-collects _ _ (verdict-bound _ (s .fits .w .fits)) (omega arith) (v .room .ensures .0) (omega arith) (s .pre .inside) (u .put-verdict .ensures)
 
 pub collect-verdict-spec : {M : Type 1} → statement M
 collect-verdict-spec = tie.close (tie.spec room-requires put-verdict-requires same-length returns)

@@ -1,67 +1,72 @@
 -- `bench_view::show_read` meets its contract: the first line, the widths and the last line, which finds that list and groups agree. Assumes nothing.
-use mathlib.Core.Path.{sym, _∙_}
+use Prim.Native.Nat.{_*_, _≤_}
+use mathlib.Core.Path.{_≡_, sym, ap, _∙_}
 use native.Mathlib.Omega.{arith}
-use lib.ListN.{length}
+use lib.ListN.{length, take}
 use lib.Seq.{length-take-le}
 use borrow.Author.Needs.{needs}
+use Rattle.words.specs.Moves.{log}
+use Rattle.call_answers.specs.declared.Answer.{Answer as Plain}
 use Rattle.bench_view.specs.Views.{readView}
-use Rattle.bench_view.proofs.Adding.{adds-join}
+use Rattle.bench_view.proofs.Collecting.{collects-join}
 use Rattle.bench_view.proofs.Reaching.{widths-few}
-use Rattle.bench_view.proofs.Made.{log-front, log-inside, third, taken-size, verdict-agrees}
+use Rattle.bench_view.proofs.Made.{log-front, log-inside, taken-size, verdict-agrees}
 use Rattle.bench_view.proofs.show_read.Statement.{statement}
 use Rattle.bench_view.proofs.show_read.Tie as tie
 
 log-requires : tie.Need-log-requires
 log-requires c κs = search needs
 
-moves-of-requires : tie.Need-moves-of-requires
-moves-of-requires c κs = search needs
+logged-requires : tie.Need-logged-requires
+logged-requires c κs = search needs
+
+move-size-requires : tie.Need-move-size-requires
+move-size-requires c κs = search needs
+
+-- the front that is cut off the log's slice lies in it, and is the log
+moves-inside : (c : tie.After-move-size) → c .move-size .result * c .before .logged .result .value ≤ length (c .before .before .before .before .log .last .1 .0)
+moves-inside c =
+    let u = c .before .before .before .before in
+    let s = u .before .before .before .before .before .before .before in
+    rw (c .move-size .ensures) (log-inside _ _ (s .pre .0) (s .pre .3) (u .log .ensures .0) (u .log .ensures .1) (ap (λ (a : Plain). a .value) (c .before .logged .ensures)))
+
+moves-are : (c : tie.After-move-size) → take (c .move-size .result * c .before .logged .result .value) (c .before .before .before .before .log .last .1 .0) ≡ log (c .before .before .before .before .before .before .before .before .before .before .before .args .read .now)
+moves-are c =
+    let u = c .before .before .before .before in
+    let s = u .before .before .before .before .before .before .before in
+    rw (c .move-size .ensures) (log-front _ _ (s .pre .0) (s .pre .3) (u .log .ensures .0) (u .log .ensures .1) (ap (λ (a : Plain). a .value) (c .before .logged .ensures)))
 
 mul-moves : tie.Need-mul-moves
-mul-moves c =
-    let u = c .before .before .before in
-    let s = u .before .before .before .before .before .before .before in
-    omega (arith, log-inside _ _ (s .pre .0) (s .pre .3) (u .log .ensures .0) (u .log .ensures .1) (c .moves-of .ensures))
+mul-moves c = omega (arith, moves-inside c)
+
+line-size-requires : tie.Need-line-size-requires
+line-size-requires c κs = search needs
+
+-- and so does the front of the list's
+lines-inside : (c : tie.After-line-size) → c .line-size .result * c .before .before .before .before .before .before .before .before .before .before .before .before .args .count ≤ length (c .before .before .before .before .before .before .before .before .before .before .before .before .args .list .now)
+lines-inside c = rw (c .line-size .ensures) (c .before .before .before .before .before .before .before .before .before .before .before .before .pre .1)
 
 mul-size : tie.Need-mul-size
-mul-size c =
-    let s = c .before .before .before .before .before .before .before .before .before .before in
-    omega (arith, third (s .args .count), s .pre .1)
+mul-size c = omega (arith, lines-inside c)
 
 collect-head-requires : tie.Need-collect-head-requires
 collect-head-requires c κs = search needs
 
 slice-reshare-prefix-show-widths : tie.Need-slice-reshare-prefix-show-widths
-slice-reshare-prefix-show-widths c =
-    let u = c .before .before .before .before in
-    let v = u .before .before .before in
-    let s = v .before .before .before .before .before .before .before in
-    log-inside _ _ (s .pre .0) (s .pre .3) (v .log .ensures .0) (v .log .ensures .1) (u .moves-of .ensures)
+slice-reshare-prefix-show-widths c = moves-inside (c .before .before .before .before .before)
 
 slice-aggregate-show-widths : tie.Need-slice-aggregate-show-widths
-slice-aggregate-show-widths c =
-    let u = c .before .before .before .before .before in
-    let v = u .before .before .before in
-    let s = v .before .before .before .before .before .before .before in
-    sym (length-take-le _ _ (log-inside _ _ (s .pre .0) (s .pre .3) (v .log .ensures .0) (v .log .ensures .1) (u .moves-of .ensures)))
+slice-aggregate-show-widths c = sym (length-take-le _ _ (moves-inside (c .before .before .before .before .before .before)))
 
 slice-aggregate-show-widths-2 : tie.Need-slice-aggregate-show-widths-2
-slice-aggregate-show-widths-2 c =
-    let m = c .before .before .before .before .before .before .before .before .before .before .before .before in
-    let s = m .before .before .before .before in
-    sym (length-take-le _ _ (omega (arith, third (s .args .count), s .pre .1)))
+slice-aggregate-show-widths-2 c = sym (length-take-le _ _ (lines-inside (c .before .before .before .before .before .before)))
 
 show-widths-requires : tie.Need-show-widths-requires
 show-widths-requires c κs =
     let u = c .before .before .before .before .before .before in
     let v = u .before .before in
-    let w = v .before .before .before in
-    let s = w .before .before .before .before .before .before .before in (
-      record {
-        few = s .pre .0;
-        log = log-front _ _ (s .pre .0) (s .pre .3) (w .log .ensures .0) (w .log .ensures .1) (v .moves-of .ensures);
-        list = rw (third (s .args .count)) at (s .pre .2);
-      },
+    let s = v .before .before .before .before .before .before .before .before .before .before .before .before in (
+      record { few = s .pre .0; log = moves-are (v .before); list = rw (v .line-size .ensures) (s .pre .2) },
       s .pre .4,
       record { room = omega arith; inside = u .collect-head .ensures .inside },
     )
@@ -71,9 +76,8 @@ widths-requires c κs = search needs
 
 add-first-differ : tie.Need-add-first-differ
 add-first-differ c =
-    let m = c .before .before .before .before .before .before .before .before .before .before .before .before in
-    let n = m .before .before .before .before .before .before .before .before .before .before .before .before in
-    let s = n .before .before in
+    let m = c .before .before .before .before .before .before .before .before .before .before .before .before .before .before in
+    let s = m .before .before .before .before .before .before .before .before .before .before .before .before .before .before in
     omega (arith, c .widths .ensures, widths-few (length (s .args .read .now)) (s .pre .0))
 
 first-differ-requires : tie.Need-first-differ-requires
@@ -83,22 +87,16 @@ collect-verdict-requires : tie.Need-collect-verdict-requires
 collect-verdict-requires c κs =
     let u = c .before .before .before .before .before .before .before .before .before in
     let v = u .before .before .before .before .before .before .before in
-    let s = v .before .before .before .before .before .before .before .before .before .before .before .before in
+    let s = v .before .before .before .before .before .before .before .before .before .before .before .before .before .before in
     record {
-      room =
-          omega (
-            arith,
-            s .pre .5 .room,
-            v .collect-head .kept .1 .0,
-            u .show-widths .kept .1 .1 .1 .1 .0,
-          );
+      room = omega (arith, s .pre .5 .room, v .collect-head .kept .1 .0, u .show-widths .kept .1 .1 .1 .1 .0);
       inside = u .show-widths .ensures .1 .inside;
     }
 
 same-length : tie.Need-same-length
 same-length c =
     let m = c .before .before .before .before .before .before .before .before .before .before .before .before in
-    let u = m .before .before .before .before .before .before .before .before .before .before .before .before in
+    let u = m .before .before .before .before .before .before .before .before .before .before .before .before .before .before in
     u .log .kept .1 .0
 
 same-length-2 : tie.Need-same-length-2
@@ -114,8 +112,8 @@ returns c =
     let v = u .before .before in
     let w = v .before .before .before .before .before .before .before .before in
     let x = w .before .before .before .before .before .before .before in
-    let s = x .before .before .before .before .before .before .before .before .before .before .before .before in
-    adds-join (adds-join (x .collect-head .ensures) (w .show-widths .ensures .1))
+    let s = x .before .before .before .before .before .before .before .before .before .before .before .before .before .before in
+    collects-join (collects-join (x .collect-head .ensures) (w .show-widths .ensures .1))
     (rw (v .first-differ .ensures ∙ verdict-agrees (s .args .count) _ (w .show-widths .ensures .0)
     (taken-size _ _ (s .args .count) (s .pre .1) (s .pre .2))) at (u .collect-verdict .ensures))
 
@@ -124,8 +122,10 @@ show-read-spec =
     tie.close
     (tie.spec
     log-requires
-    moves-of-requires
+    logged-requires
+    move-size-requires
     mul-moves
+    line-size-requires
     mul-size
     collect-head-requires
     slice-reshare-prefix-show-widths

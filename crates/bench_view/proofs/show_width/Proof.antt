@@ -4,7 +4,7 @@ use native.Mathlib.Omega.{arith}
 use lib.ListN.{length}
 use lib.Seq.{length-take-le}
 use borrow.Author.Needs.{needs}
-use Rattle.bench_view.proofs.Reaching.{table-left, widths-few, brief-own, moved-inside, listed-inside, width-adds, reached-next}
+use Rattle.bench_view.proofs.Reaching.{table-left, widths-few, brief-own, moved-inside, listed-inside, width-collects, reached-next}
 use Rattle.bench_view.proofs.show_width.Statement.{statement}
 use Rattle.bench_view.proofs.show_width.Tie as tie
 
@@ -47,7 +47,7 @@ returns c =
       reached-next (s .pre .0) (s .pre .1) (s .pre .2)
           (table-left _ _ _ _ (s .args .w) (s .pre .0 .log) (s .pre .0 .few) (s .pre .1 .low) (s .pre .2) (s .pre .3) (v .replay .ensures .1))
           (u .show-table .ensures),
-      width-adds (s .pre .0) (s .pre .1) (s .pre .2)
+      width-collects (s .pre .0) (s .pre .1) (s .pre .2)
           (table-left _ _ _ _ (s .args .w) (s .pre .0 .log) (s .pre .0 .few) (s .pre .1 .low) (s .pre .2) (s .pre .3) (v .replay .ensures .1))
           (u .show-table .ensures),
     )

@@ -6,9 +6,9 @@ use lib.ListN.{length}
 use borrow.Author.Needs.{needs}
 use Rattle.words.specs.Range.{gather}
 use Rattle.bench_view.specs.Views.{widthView, widthsOf}
-use Rattle.bench_view.specs.Adding.{Adds}
+use Rattle.bench_view.specs.Collecting.{Collects}
 use Rattle.bench_view.specs.Places.{Reached}
-use Rattle.bench_view.proofs.Adding.{adds-none, adds-next}
+use Rattle.bench_view.proofs.Collecting.{collects-none, collects-next}
 use Rattle.bench_view.proofs.Reaching.{reached-first}
 use Rattle.bench_view.proofs.show_widths.Statement.{statement}
 use Rattle.bench_view.proofs.show_widths.Tie as tie
@@ -16,7 +16,7 @@ use Rattle.bench_view.proofs.show_widths.Tie as tie
 abbrev Inv-loop : tie.InvT-loop
 Inv-loop read log list table₀ buf₀ top p₀ w₀ table buf p w =
     (w ≤ top) × (length table ≡ length table₀) × (length buf ≡ length buf₀) × Reached read
-    (w + 1) p × Adds buf₀ (p₀ .out .used) (gather (widthView read) w 1) buf (p .out .used)
+    (w + 1) p × Collects buf₀ (p₀ .out .used) (gather (widthView read) w 1) buf (p .out .used)
 
 abbrev μ-loop : tie.MeasureT-loop
 μ-loop read log list table₀ buf₀ top p₀ w₀ table buf p w = top - w
@@ -26,7 +26,7 @@ widths-requires c κs = search needs
 
 loop-holds : tie.Need-loop-holds Inv-loop μ-loop
 unfolding gather
-loop-holds c = (omega arith, refl, refl, reached-first _ _, adds-none (c .before .before .before .before .before .before .pre .2 .inside))
+loop-holds c = (omega arith, refl, refl, reached-first _ _, collects-none (c .before .before .before .before .before .before .pre .2 .inside))
 
 add-show-width : tie.Need-add-show-width Inv-loop μ-loop
 add-show-width c = search needs
@@ -58,7 +58,7 @@ loop-again c =
       omega arith,
       omega arith,
       u .show-width .ensures .0,
-      adds-next (widthView (s .args .read .now)) (v .loop .w) (v .loop .inv .4) (u .show-width .ensures .1),
+      collects-next (widthView (s .args .read .now)) (v .loop .w) (v .loop .inv .4) (u .show-width .ensures .1),
     )
 
 same-length : tie.Need-same-length Inv-loop μ-loop

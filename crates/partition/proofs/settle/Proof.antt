@@ -1,8 +1,8 @@
 -- `settle` meets its contract: each phase ensures what the next one asks, and the last two give the new names. Assumes nothing.
 use native.Mathlib.Omega.{arith}
 use mathlib.Core.Path.{sym}
-use Rattle.slots.proofs.Laws.{view-length}
-use Rattle.renew.proofs.Ends.{ready-placed, named-next, named-clean}
+use Rattle.step_slots.proofs.Laws.{view-length}
+use Rattle.step_renew.proofs.Ends.{ready-placed, named-next, named-clean}
 use borrow.Author.Needs.{needs}
 use Rattle.partition.proofs.settle.Statement.{statement}
 use Rattle.partition.proofs.settle.Tie as tie

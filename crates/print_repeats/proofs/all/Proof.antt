@@ -3,7 +3,7 @@ use Prim.Native.Nat.{_≤_}
 use mathlib.Core.Path.{_≡_}
 use lib.ListN.{length}
 use borrow.Author.Needs.{needs}
-use Rattle.streams.specs.Cuts.{Within}
+use Rattle.text_streams.specs.Cuts.{Within}
 use Rattle.print_repeats.proofs.all.Statement.{statement}
 use Rattle.print_repeats.proofs.all.Tie as tie
 

@@ -4,8 +4,8 @@ use mathlib.Core.Bool.{true, false}
 use native.Mathlib.Omega.{arith}
 use denote.Ref.{now}
 use Rattle.words.specs.Calls.{shown}
-use Rattle.claims.proofs.Said.{isYes, other-tag-not-yes, yes-shown}
-use Rattle.claims.proofs.Motifs.{shown-inside}
+use Rattle.call_claims.proofs.Said.{isYes, other-tag-not-yes, yes-shown}
+use Rattle.call_claims.proofs.Motifs.{shown-inside}
 use Rattle.sorunggyeo.proofs.Parts.{part-shown, part-hidden}
 use borrow.Author.Needs.{needs}
 use Rattle.sorunggyeo.proofs.sorunggyeo_motif.Statement.{statement}

@@ -1,9 +1,0 @@
-pub mod Searches
-pub mod Gaps
-pub mod Rows
-pub mod Lines
-pub mod Turns
-pub mod Agree
-pub mod Parts
-pub mod Cuts
-pub mod OwnRows

@@ -1,0 +1,8 @@
+pub mod Gaps
+pub mod Rows
+pub mod Lines
+pub mod Turns
+pub mod Agree
+pub mod Parts
+pub mod Cuts
+pub mod OwnRows

@@ -1,0 +1,4 @@
+pub mod Order
+pub mod Judging
+pub mod Orderly
+pub mod Formed

@@ -1,0 +1,77 @@
+-- What `list` answers and leaves: each answer says what document 01 says, and no two answers say the same. Assumes nothing.
+use Prim.Native.Nat.{ℕ, _/_, _≤_, _<_}
+use mathlib.Core.Path.{_≡_, refl, sym, ap, _∙_}
+use mathlib.Core.Bool.{cond}
+use mathlib.Core.List.{List}
+use native.Mathlib.Omega.{arith}
+use lib.ListN.{length, getD, replicate}
+use lib.Dec.{eqb}
+use borrow.Author.Tests.{lt-ltb, le-ltb, le-leb, lt-leb}
+use Rattle.words.specs.Reads.{most}
+use Rattle.words.specs.Rows.{rows}
+use Rattle.words.specs.Lists.{lineSize, lines, lineCount, inMode}
+use Rattle.words.specs.Logs.{within}
+use Rattle.words.specs.Answers.{Answer, success, refusal, listedSays}
+use Rattle.words.specs.Calls.{refuse, tooLong, afterwards, listAfterwards, listAnswer, listLeaves}
+use Rattle.words.specs.declared.Listed.{Listed}
+use Rattle.words.proofs.Rows.{rows-times}
+use Rattle.words.proofs.LineLayout.{line-some}
+use Rattle.row_cells.specs.Listing.{Listing}
+use Rattle.row_cells.proofs.Adding.{room-fits}
+
+-- the contract of `list`: what it answers, and what it leaves in the slice
+abbrev pub Says : List ℕ → ℕ → List ℕ → Listed → List ℕ → Type 0
+Says x mode out a out′ = (listedSays a ≡ listAnswer x mode out) × (out′ ≡ listLeaves x mode out)
+
+module _ (x : List ℕ) (mode : ℕ) (out : List ℕ) where
+  pub long-said : most < length x → Says x mode out (Listed.TooLong (length x)) out
+  unfolding listedSays listAnswer listLeaves listAfterwards afterwards refuse tooLong refusal
+  long-said l = (rw (lt-ltb most (length x) l), rw (lt-ltb most (length x) l))
+
+  module _ (few : length x ≤ most) where
+    pub mode-said : 1 < mode → Says x mode out (Listed.BadMode mode) out
+    unfolding listedSays listAnswer listLeaves listAfterwards afterwards refuse tooLong refusal within
+    mode-said l =
+        (rw (le-ltb most (length x) few, le-leb 0 mode (omega arith), lt-leb mode 1 l), rw (le-ltb most (length x) few, le-leb 0 mode (omega arith), lt-leb mode 1 l))
+
+    module _ (m : mode ≤ 1) (r : ℕ) (out′ : List ℕ) (L : Listing lineSize out (lines x (inMode x mode)) r out′) where
+      counted : lineCount x (inMode x mode) ≡ r
+      unfolding lineCount
+      counted = rows-times lineSize (lines x (inMode x mode)) r line-some (L .count)
+
+      same-room : rows lineSize out ≡ rows lineSize out′
+      unfolding rows
+      same-room = ap (λ (v : ℕ). v / lineSize) (sym (L .same))
+
+      pub short-said : rows lineSize out′ < r → Says x mode out (Listed.ListFull r) (replicate (length out′) 0)
+      unfolding listedSays listAnswer listLeaves listAfterwards afterwards refuse tooLong refusal within
+      short-said l =
+          let t = lt-ltb (rows lineSize out′) r l in (
+            rw (le-ltb most (length x) few, le-leb 0 mode (omega arith), le-leb mode 1 m, counted, same-room, t),
+            rw (le-ltb most (length x) few, le-leb 0 mode (omega arith), le-leb mode 1 m, counted, same-room, t, L .same),
+          )
+
+      pub lines-said : r ≤ rows lineSize out′ → Says x mode out (Listed.Lines r) out′
+      unfolding listedSays listAnswer listLeaves listAfterwards afterwards refuse tooLong success within
+      lines-said l =
+          let t = le-ltb (rows lineSize out′) r l in (
+            rw (le-ltb most (length x) few, le-leb 0 mode (omega arith), le-leb mode 1 m, counted, same-room, t),
+            rw (le-ltb most (length x) few, le-leb 0 mode (omega arith), le-leb mode 1 m, counted, same-room, t) (L .front (omega (arith, L .count, L .same, room-fits lineSize out′ r l))),
+          )
+
+-- an answer read back
+answered : Answer → Listed
+answered a =
+    let v = getD (a .values) 0 0 in
+    cond (eqb (a .number) 0) (Listed.Lines v) (cond (eqb (a .number) 1) (Listed.TooLong v) (cond (eqb (a .number) 2) (Listed.BadMode v) (Listed.ListFull v)))
+
+said-answered : (a : Listed) → answered (listedSays a) ≡ a
+unfolding answered listedSays success refusal
+said-answered (Listed.Lines c) = refl
+said-answered (Listed.TooLong n) = refl
+said-answered (Listed.BadMode m) = refl
+said-answered (Listed.ListFull c) = refl
+
+-- two answers and two slices that the contract of `list` allows are equal
+pub list-settled : (x : List ℕ) (mode : ℕ) (out : List ℕ) (a b : Listed) (u v : List ℕ) → Says x mode out a u → Says x mode out b v → (a ≡ b) × (u ≡ v)
+list-settled x mode out a b u v s t = (sym (said-answered a) ∙ ap answered (s .0 ∙ sym (t .0)) ∙ said-answered b, s .1 ∙ sym (t .1))

@@ -1,0 +1,5 @@
+pub mod Marked
+pub mod Renaming
+pub mod Turns
+pub mod Widths
+pub mod Said

@@ -1,9 +1,0 @@
-pub mod Refuted
-pub mod Letters
-pub mod Compared
-pub mod Runs
-pub mod Sizes
-pub mod Shorter
-pub mod Repeated
-pub mod Said
-pub mod Motifs

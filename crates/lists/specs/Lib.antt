@@ -1,3 +1,0 @@
-pub mod Periods
-pub mod Listing
-pub mod Widths

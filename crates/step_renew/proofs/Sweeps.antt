@@ -1,0 +1,76 @@
+-- The walk that names a group comes to each of its positions: between a position and the next there is none of the group. Assumes nothing.
+use Prim.Native.Nat.{ℕ, _+_, _≤_, _<_}
+use mathlib.Core.Path.{_≡_, refl, sym, ap, _∙_}
+use mathlib.Core.Logic.{by-cases, ⊎-elim}
+use mathlib.Core.List.{List}
+use native.Mathlib.Omega.{arith}
+use native.Mathlib.Decide.{ℕ-discrete}
+use lib.ListN.{length}
+use Rattle.words.specs.Reads.{at}
+use Rattle.words.proofs.Tests.{lt-or-ge}
+use Rattle.step_slots.specs.Slots.{put}
+use Rattle.step_slots.proofs.Laws.{put-length, put-same, put-other}
+use Rattle.step_refine.proofs.Links.{Nearest, gap-nearest}
+use Rattle.step_renew.specs.Sweep.{Walkable, Swept, Sweeping}
+
+module _ (u dist : List ℕ) (h : ℕ) (W : Walkable u dist h) where
+  -- h is stored at h, where the walk begins
+  pub sweep-begins : (name : List ℕ) → length name ≡ 1000 → Sweeping u (put name h h) (put name h h) h h (at dist h)
+  sweep-begins name long =
+      record {
+        swept = record {
+          long = put-length name h h ∙ long;
+          named = λ i a b e.
+              let s : i ≡ h = omega (arith, b, e, W .least .high i a (omega (arith, b, W .high))) in
+              rw s (put-same name h h (W .low) (omega (arith, W .high, W .few, long)));
+          other = λ i a b ne. refl;
+        };
+        low = W .low;
+        high = W .high;
+        of = W .own;
+        ahead = W .gaps .next h (W .low) (W .high);
+      }
+
+  module _ (old new : List ℕ) (j d : ℕ) (S : Sweeping u old new h j d) where
+    -- the distance ahead leads to a position of the same group, and passes none
+    ahead-nearest : Nearest u j d
+    ahead-nearest = rw (S .ahead) (gap-nearest u j (S .high))
+
+    pub ahead-inside : j + d ≤ 1000
+    ahead-inside = omega (arith, ahead-nearest .high, W .few)
+
+    -- h is stored there too
+    pub sweep-goes-on : 0 < d → Sweeping u old (put new (j + d) h) h (j + d) (at dist (j + d))
+    sweep-goes-on p =
+        record {
+          swept = record {
+            long = put-length new (j + d) h ∙ S .swept .long;
+            named = λ i a b e.
+                by-cases (ℕ-discrete i (j + d))
+                (λ s. rw s (put-same new (j + d) h (omega (arith, p)) (omega (arith, ahead-inside, S .swept .long))))
+                (λ ne.
+                put-other new (j + d) h i (omega (arith, p)) a ne
+                ∙ ⊎-elim
+                (λ l. absurd (ahead-nearest .free i l (omega arith) (e ∙ sym (S .of))))
+                (λ l. S .swept .named i a l e) (lt-or-ge j i));
+            other = λ i a b ne.
+                put-other new (j + d) h i (omega (arith, p)) a (λ s. ne (ap (at u) s ∙ ahead-nearest .same ∙ S .of))
+                ∙ S .swept .other i a b ne;
+          };
+          low = omega (arith, p);
+          high = ahead-nearest .high;
+          of = ahead-nearest .same ∙ S .of;
+          ahead = W .gaps .next (j + d) (omega (arith, p)) (ahead-nearest .high);
+        }
+
+  -- with no distance ahead the whole group is named
+  pub sweep-ends : (name new : List ℕ) (j d : ℕ) → Sweeping u (put name h h) new h j d → d ≡ 0 → Swept u name new h (length u)
+  sweep-ends name new j d S z =
+      record {
+        long = S .swept .long;
+        named = λ i a b e.
+            ⊎-elim
+            (λ l. absurd (ahead-nearest (put name h h) new j d S .end z i l b (e ∙ sym (S .of))))
+            (λ l. S .swept .named i a l e) (lt-or-ge j i);
+        other = λ i a b ne. S .swept .other i a b ne ∙ put-other name h h i (W .low) a (λ s. ne (ap (at u) s ∙ W .own));
+      }

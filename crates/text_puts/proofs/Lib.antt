@@ -1,0 +1,4 @@
+pub mod Putting
+pub mod Pieces
+pub mod Decimals
+pub mod Bounds

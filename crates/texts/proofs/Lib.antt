@@ -1,7 +1,0 @@
-pub mod Putting
-pub mod Decimals
-pub mod Refused
-pub mod Listing
-pub mod Bounds
-pub mod Said
-pub mod Shown

@@ -1,3 +1,0 @@
-pub mod Ascii
-pub mod Texts
-pub mod Puts

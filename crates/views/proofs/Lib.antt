@@ -1,6 +1,0 @@
-pub mod Pieces
-pub mod Counted
-pub mod Cells
-pub mod Shapes
-pub mod Rows
-pub mod Bounds
