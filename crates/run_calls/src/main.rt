@@ -1,5 +1,5 @@
-// Runs every call on the reads with known results that document 01 has run, at the edges of each refusal and on refusals in combination, and
-// prints each answer in the document's numbers with the slice before and after. The reader is lent to `next` by `call_reader::call_once`.
+// Runs every call but the reader's `new` on the reads with known results that document 01 has run, at the edges of each refusal and on refusals
+// in combination, and prints each answer in the document's numbers with the slice before and after. `next` is run by `call_reader::call_once`.
 ghost use Prim.Native.Nat.{_≤_};
 use call_answers::Answer;
 use libc::STDOUT_FILENO;
