@@ -2,7 +2,7 @@
 
    Positions in a read count from 1; places of lines, entries and bytes count from 0. A read is any bytes. A call answers every input, checks
    its refusals in the order of their numbers, and touches nothing but the slice that it writes. It holds nothing from call to call, so any
-   number of threads may call. A pointer with a count of 0 is never read or written, but must not be null. */
+   number of threads may call. A pointer with a count of 0 is never followed, and may be null. */
 #ifndef SORUNGGYEO_H
 #define SORUNGGYEO_H
 

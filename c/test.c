@@ -1,7 +1,7 @@
 /* Runs the calls from C and prints what the slow program prints, for c/check to compare:
      test lists|leading|logs < READS           every read's list, leading repeats, or log
      test tables TABLES < READS                every read's tables at the widths that the file TABLES has
-     test calls                                what crates/run_calls prints
+     test calls                                what crates/run_calls prints, and the calls on empty slices that are null
    Besides, no answer has a second value, in `lists` each line is claimed and its motif taken, in `logs` the log is walked by the reader, and in
    `tables` the replay of the read's own log must give the same table; what fails prints a line that no stored output has. */
 #include "sorunggyeo.h"
@@ -25,6 +25,11 @@ static sorunggyeo_answer one(sorunggyeo_answer a)
 {
     expect(a.more == 0, "there is no second value");
     return a;
+}
+
+static void same(sorunggyeo_answer a, uint32_t number, uint64_t value)
+{
+    expect(one(a).number == number && a.value == value, "the answer on an empty slice");
 }
 
 /* the next line of standard input without its newline; 0 once there is none */
@@ -219,6 +224,26 @@ static void byte_calls(void)
     list_on(all, 256, 0, 3), table_on(all, 256, 1, 257), log_on(all, 256, 6885);
 }
 
+/* an empty slice may be null, as that of an empty vector of C++ is */
+static void null_calls(void)
+{
+    const uint8_t *aaaa = (const uint8_t *)"AAAA";
+    uint16_t names[4] = {7, 7, 7, 7};
+    same(sorunggyeo_list(NULL, 0, 0, NULL, 0), 0, 0), same(sorunggyeo_list(NULL, 0, 2, NULL, 0), 2, 2);
+    same(sorunggyeo_list(aaaa, 4, 0, NULL, 0), 3, 3), same(sorunggyeo_list(NULL, 0, 0, names, 4), 0, 0);
+    same(sorunggyeo_group_table(NULL, 0, 1, NULL, 0), 2, 1), same(sorunggyeo_group_table(aaaa, 4, 1, NULL, 0), 4, 4);
+    same(sorunggyeo_log(NULL, 0, NULL, 0), 0, 0), same(sorunggyeo_log(aaaa, 1, NULL, 0), 0, 0), same(sorunggyeo_log(aaaa, 4, NULL, 0), 4, 27);
+    same(sorunggyeo_replay(NULL, 0, NULL, 0, 1, NULL, 0), 2, 1), same(sorunggyeo_replay(aaaa, 4, NULL, 0, 1, NULL, 0), 4, 4);
+    expect(names[0] == 7 && names[3] == 7, "an empty list leaves the slice as it was");
+    same(sorunggyeo_replay(aaaa, 4, NULL, 0, 2, names, 4), 0, 4);
+    expect(names[0] == 1 && names[3] == 1, "nothing moves by an empty log");
+    same(sorunggyeo_claim(NULL, 0, 0, 0, 0), 0, 0), same(sorunggyeo_claim(NULL, 0, 1, 1, 2), 0, 0);
+    sorunggyeo_part u = sorunggyeo_motif(NULL, 0, 1, 1, 2);
+    expect(u.from == 0 && u.count == 0, "an empty read has no motif");
+    sorunggyeo_move m = sorunggyeo_next(NULL, 0, 5);
+    expect(!m.found && m.at == 5, "an empty log has ended");
+}
+
 int main(int argc, char **argv)
 {
     const char *what = argc > 1 ? argv[1] : "";
@@ -234,7 +259,7 @@ int main(int argc, char **argv)
         if (!stored) return 1;
         print_tables(stored);
     } else if (!strcmp(what, "calls")) {
-        short_calls(), long_calls(), byte_calls();
+        short_calls(), long_calls(), byte_calls(), null_calls();
     } else {
         return 1;
     }

@@ -1,5 +1,6 @@
 # What each program of crates/ is given on standard input, and what it must write.
 
+import re
 from itertools import groupby
 from reads import Dice, DNA, every, fibonacci, known
 from rules import (LIMIT, LINES, answer_claim, answer_group_table, answer_list, answer_log, answer_replay, claim,
@@ -85,6 +86,10 @@ def view_width(names, moved, lines):
     for line in lines:
         yield row("repeat", line)
 
+def shown(x):
+    # what a terminal could obey, what is blank or beyond ASCII, and the backslash, by its number
+    return re.sub(rb"[^!-~]|\\", lambda found: b"\\x%02x" % found[0][0], x)
+
 def view(x):
     lines = repeats(x, 0) if len(x) <= LIMIT else []
     if len(x) > LIMIT: return b"refused 1 %d\n" % len(x)
@@ -98,11 +103,12 @@ def view(x):
         if part != lines_of_groups(names, w):
             differ.append(w)
     last = "differ at width %d" % differ[0] if differ else "agree at every width"
-    return b"read %d %s\n" % (len(x), x) + ("".join(text) + "list and groups %s\n" % last).encode()
+    return b"read %d %s\n" % (len(x), shown(x)) + ("".join(text) + "list and groups %s\n" % last).encode()
 
 def bench_view():
     dice = Dice(7019)
-    reads = known() + [fibonacci()[7], dice.word(DNA, 40), dice.word(DNA, 57), b"\0\xff\0\0\xff\0\xff\0", b"", b"T",
+    reads = known() + [fibonacci()[7], dice.word(DNA, 40), dice.word(DNA, 57), b"\0\xff\0\0\xff\0\xff\0",
+                       b"\x1b[2J\x1b[2J\t\r \x7f\x9b\\x1b~!", b"", b"T",
                        b"A" * 1001, b"ACGTTACGTT" * 250]
     last = b"ACGTACG"
     return text(reads) + last, b"".join(map(view, reads + [last]))

@@ -6,3 +6,4 @@ pub mod Agree
 pub mod Parts
 pub mod Cuts
 pub mod OwnRows
+pub mod Settled

@@ -28,7 +28,7 @@ use Rattle.words.proofs.Lines.{lines-top}
 use Rattle.words.proofs.Room.{log-length}
 use Rattle.words.proofs.Sizes.{room-few}
 use Rattle.words.proofs.Afterwards.{front}
-use Rattle.lister.proofs.Answered.{list-decided, log-decided}
+use Rattle.lister.proofs.Answered.{list-by, log-by}
 use Rattle.call_answers.specs.declared.Answer.{Answer as Plain}
 use Rattle.call_answers.specs.Plain.{plain}
 use Rattle.call_answers.proofs.One.{listed-one}
@@ -57,7 +57,8 @@ enough (suc n) h = mul-le-mul-left moveSize (omega (arith, room-few (suc n) (ome
 module _ (x out : List ℕ) (few : length x ≤ most) (room : moveSize * M most ≤ length out) {a : Answer} {made : List ℕ}
     (says : a ≡ logAnswer x out) (left : made ≡ logLeaves x out) {k : ℕ} (told : k ≡ plain a .value) where
   done : (logAnswer x out ≡ success (rows moveSize (log x))) × (logLeaves x out ≡ front (log x) out)
-  done = log-decided x out .done few (omega (arith, enough (length x) few))
+  unfolding success refusal
+  done = log-by x out .gives 0 (few, omega (arith, enough (length x) few))
 
   log-size : length (log x) ≡ moveSize * k
   unfolding plain success
@@ -96,15 +97,15 @@ module _ (x list : List ℕ) {n v : ℕ} (told : listAnswer x 0 list ≡ record 
     differs k w e = absurd (omega (arith, z, number-is, ap (λ (a : Answer). a .number) e))
 
     list-done : (length x ≤ most) × (v ≡ lineCount x (inMode x 0)) × (listLeaves x 0 list ≡ front (lines x (inMode x 0)) list)
-    unfolding success
+    unfolding success refusal
     list-done = go (lt-or-ge most (length x)) (lt-or-ge (rows lineSize list) (lineCount x (inMode x 0)))
       where
         go : (most < length x) ⊎ (length x ≤ most) → (rows lineSize list < lineCount x (inMode x 0)) ⊎ (lineCount x (inMode x 0) ≤ rows lineSize list) →
             (length x ≤ most) × (v ≡ lineCount x (inMode x 0)) × (listLeaves x 0 list ≡ front (lines x (inMode x 0)) list)
-        go (inl h) l = differs 0 (length x) (list-decided x 0 list .long h .0)
-        go (inr h) (inl l) = differs 2 (lineCount x (inMode x 0)) (list-decided x 0 list .list-full h (omega arith) l .0)
+        go (inl h) l = differs 0 (length x) (list-by x 0 list .gives 1 h .0)
+        go (inr h) (inl l) = differs 2 (lineCount x (inMode x 0)) (list-by x 0 list .gives 3 (h, omega arith, l) .0)
         go (inr h) (inr l) =
-            let d = list-decided x 0 list .done h (omega arith) l in
+            let d = list-by x 0 list .gives 0 (h, omega arith, l) in
             (h, ap (λ (a : Answer). getD (a .values) 0 0) (sym told ∙ d .0), d .1)
 
     pub list-few : length x ≤ most
@@ -120,11 +121,6 @@ module _ (x list : List ℕ) {n v : ℕ} (told : listAnswer x 0 list ≡ record 
 
       pub list-inside : lineSize * v ≤ length made
       list-inside = omega (arith, ap length (left ∙ list-done .2), front-takes (lines x (inMode x 0)) list (lineSize * v) list-size .1)
-
--- a read over the limit
-pub view-long : (x list : List ℕ) → most < length x → viewText (listAnswer x 0 list) x ≡ refusedText 1 (length x ∷ [])
-unfolding refusal
-view-long x list h = view-refused x list (list-decided x 0 list .long h .0) (omega arith)
 
 -- ---- the verdict
 

@@ -31,7 +31,7 @@ use Rattle.words.proofs.Lines.{lines-at-each, lines-top}
 use Rattle.words.proofs.Logs.{log-well-formed}
 use Rattle.words.proofs.Replay.{replay-own}
 use Rattle.words.proofs.Room.{moves-length}
-use Rattle.lister.proofs.Answered.{replay-decided}
+use Rattle.lister.proofs.Answered.{replay-by}
 use Rattle.text_streams.specs.declared.Out.{Out}
 use Rattle.bench_agrees.specs.Parts.{partEnd}
 use Rattle.bench_agrees.proofs.Agree.{list-and-groups-agree}
@@ -99,7 +99,7 @@ pub table-left : (x l out after : List ℕ) (w : ℕ) → l ≡ log x → length
 unfolding top
 table-left x l out after w own few low high room e =
     let d = widths-some x w low high in
-    let made = replay-decided x (log x) w out .done few (d .0) low (d .1) (omega arith) (log-well-formed x) in
+    let made = replay-by x (log x) w out .gives 0 (few, (d .0, low, d .1), omega arith, log-well-formed x) in
     ap (take (length x)) (e ∙ ap (λ (v : List ℕ). replayLeaves x v w out) own ∙ made .1 ∙ rw (replay-own x w low (d .1)))
     ∙ take-at (table x w) (drop (length (table x w)) out) (length x) (table-length x w)
 
@@ -181,7 +181,7 @@ module _ {x l m : List ℕ} (own : Own x l m) {w : ℕ} {p : Place} (r : Reached
     s : Shown (table x w) l m w buf p after q
     s = rw e at shown
 
-    pub width-collects : Collects buf (p .out .used) (widthView x w) after (q .out .used)
+    pub width-collects : Collects buf (p .out) (widthView x w) after (q .out)
     unfolding widthView
     width-collects = rw (moves-part, lines-part) at (s .collects)
 

@@ -34,7 +34,7 @@ pub record Shown (table log list : List ℕ) (w : ℕ) (buf : List ℕ) (p : Pla
   pub moved : r .moved ≡ partEnd moveSize log widthCell w (p .moved)
   pub listed : r .listed ≡ partEnd lineSize list periodCell w (p .listed)
   pub differ : r .differ ≡ firstDiffer (p .differ) (agreesAt table w (linesFrom list w p)) w
-  pub collects : Collects buf (p .out .used) (widthText w table (movesFrom log w p) (linesFrom list w p)) after (r .out .used)
+  pub collects : Collects buf (p .out) (widthText w table (movesFrom log w p) (linesFrom list w p)) after (r .out)
 
 -- a log and a list are those of the read x, which is not too long
 pub record Own (x l m : List ℕ) : Type 0 where

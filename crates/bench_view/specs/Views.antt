@@ -10,6 +10,7 @@ use Rattle.words.specs.Lists.{linesAt, inMode}
 use Rattle.words.specs.Moves.{topOf, top, moves}
 use Rattle.words.specs.Answers.{Answer}
 use Rattle.text_answers.specs.Texts.{refusedText}
+use Rattle.text_streams.specs.Heard.{heard}
 use Rattle.text_views.specs.Views.{widthText, headText, verdictText}
 
 -- the moves of width w that the log holds: it stops before top
@@ -35,3 +36,7 @@ viewText a x = cond (eqb (a .number) 0) (readView x) (refusedText (a .number) (a
 -- the first width at which list and groups differ, after one width more; 0 while they agree
 unfoldable pub firstDiffer : ℕ → Bool → ℕ → ℕ
 firstDiffer d agree w = cond (eqb d 0 && not agree) w d
+
+-- what is printed for a line x, whose list has room for 10,000 lines
+unfoldable pub viewed : List ℕ → List ℕ
+viewed x = viewText (heard 10000 x) x

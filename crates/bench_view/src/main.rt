@@ -14,10 +14,11 @@ ghost use Rattle.words.specs.Calls.{listAnswer};
 ghost use Rattle.text_answers.specs.Texts.{refusedText};
 ghost use Rattle.text_streams.specs.Cuts.{Within};
 ghost use Rattle.text_views.specs.Views.{widthText, headText, verdictText};
-ghost use Rattle.bench_view.specs.Views.{widthView, widthsOf, readView, viewText, firstDiffer};
+ghost use Rattle.bench_view.specs.Views.{widthView, widthsOf, readView, viewText, viewed, firstDiffer};
 ghost use Rattle.bench_view.specs.Collecting.{Roomy, Collects};
 ghost use Rattle.bench_view.specs.Places.{Brief, movesFrom, linesFrom, Shown, Own, Reached};
-ghost use Rattle.bench_view.specs.Steps.{Bench, Viewed, Stepped};
+ghost use Rattle.bench_view.specs.Steps.{Bench, Viewed};
+ghost use Rattle.text_streams.specs.Runs.{Advances, Stopped, Ran};
 use bench_agrees::part_end;
 use read_edges::MOST;
 use row_cells::part;
@@ -27,14 +28,14 @@ use row_moves::entries;
 use row_moves::move_size;
 use row_moves::width_cell;
 use text_streams::Out;
-use text_streams::Source;
+use text_streams::State;
 
 // collects the first line of a read's view
 fn collect_head(read: &[u8], buf: &mut [u8], start: Out) -> Out
     requires { ⌜ (length (now read) ≤ most) × Roomy (now buf) (start .used) ⌝ }
-    ensures { λ r. ⌜ Collects (now (buf .entry)) (start .used) (headText (now (read .entry))) (now (buf .exit)) (r .used) ⌝ }
+    ensures { λ r. ⌜ Collects (now (buf .entry)) start (headText (now (read .entry))) (now (buf .exit)) r ⌝ }
 {
-    let o = text_streams::room(buf, read.len() + 27, start);
+    let o = text_streams::room(buf, 4 * read.len() + 27, start);
     let at = o.used;
     let end = text_views::put_head(buf, at, read);
     Out {
@@ -53,8 +54,8 @@ fn collect_width(
     start: Out,
 ) -> Out
     requires { ⌜ Brief (now table) (now moves) (now lines) × Roomy (now buf) (start .used) ⌝ }
-    ensures { λ r. ⌜ Collects (now (buf .entry)) (start .used) (widthText w (now (table .entry)) (now (moves .entry)) (now (lines .entry)))
-        (now (buf .exit)) (r .used) ⌝ }
+    ensures { λ r. ⌜ Collects (now (buf .entry)) start (widthText w (now (table .entry)) (now (moves .entry)) (now (lines .entry)))
+        (now (buf .exit)) r ⌝ }
 {
     // a line: a word, and six bytes for each number
     let each = 9 + 6 * line_size();
@@ -71,7 +72,7 @@ fn collect_width(
 // collects the last line, by the first width at which list and groups differ, 0 for none
 fn collect_verdict(w: usize, buf: &mut [u8], start: Out) -> Out
     requires { ⌜ Roomy (now buf) (start .used) ⌝ }
-    ensures { λ r. ⌜ Collects (now (buf .entry)) (start .used) (verdictText w) (now (buf .exit)) (r .used) ⌝ }
+    ensures { λ r. ⌜ Collects (now (buf .entry)) start (verdictText w) (now (buf .exit)) r ⌝ }
 {
     let o = text_streams::room(buf, 64, start);
     let at = o.used;
@@ -85,7 +86,7 @@ fn collect_verdict(w: usize, buf: &mut [u8], start: Out) -> Out
 // collects a refusal
 fn collect_refusal(number: u64, value: u64, buf: &mut [u8], start: Out) -> Out
     requires { ⌜ (number < 2 ^ 32) × Roomy (now buf) (start .used) ⌝ }
-    ensures { λ r. ⌜ Collects (now (buf .entry)) (start .used) (refusedText number (value ∷ [])) (now (buf .exit)) (r .used) ⌝ }
+    ensures { λ r. ⌜ Collects (now (buf .entry)) start (refusedText number (value ∷ [])) (now (buf .exit)) r ⌝ }
 {
     let o = text_streams::room(buf, 64, start);
     let at = o.used;
@@ -150,7 +151,7 @@ fn show_width(
     requires { ⌜ Own (now read) (now log) (now list) × Reached (now read) w p × (w ≤ widthsOf (length (now read)))
         × (most ≤ length (now table)) × Roomy (now buf) (p .out .used) ⌝ }
     ensures { λ r. ⌜ Reached (now (read .entry)) (w + 1) r
-        × Collects (now (buf .entry)) (p .out .used) (widthView (now (read .entry)) w) (now (buf .exit)) (r .out .used) ⌝ }
+        × Collects (now (buf .entry)) (p .out) (widthView (now (read .entry)) w) (now (buf .exit)) (r .out) ⌝ }
 {
     let n = read.len();
     lister::replay(read, log, w as u32, table);
@@ -175,8 +176,8 @@ fn show_widths(
 ) -> Place
     requires { ⌜ Own (now read) (now log) (now list) × (most ≤ length (now table)) × Roomy (now buf) (start .used) ⌝ }
     ensures { λ r. ⌜ Reached (now (read .entry)) (widthsOf (length (now (read .entry))) + 1) r
-        × Collects (now (buf .entry)) (start .used) (gather (widthView (now (read .entry))) (widthsOf (length (now (read .entry)))) 1)
-        (now (buf .exit)) (r .out .used) ⌝ }
+        × Collects (now (buf .entry)) start (gather (widthView (now (read .entry))) (widthsOf (length (now (read .entry)))) 1)
+        (now (buf .exit)) (r .out) ⌝ }
 {
     let top = widths(read.len());
     let mut p = Place {
@@ -205,7 +206,7 @@ fn show_read(
 ) -> Out
     requires { ⌜ (length (now read) ≤ most) × (lineSize * count ≤ length (now list)) × (take (lineSize * count) (now list) ≡ lines (now read) (inMode (now read) 0))
         × (moveSize * M most ≤ length (now log)) × (most ≤ length (now table)) × Roomy (now buf) (start .used) ⌝ }
-    ensures { λ r. ⌜ Collects (now (buf .entry)) (start .used) (readView (now (read .entry))) (now (buf .exit)) (r .used) ⌝ }
+    ensures { λ r. ⌜ Collects (now (buf .entry)) start (readView (now (read .entry))) (now (buf .exit)) r ⌝ }
 {
     let found = call_answers::logged(lister::log(read, log));
     let moves = move_size() * found.value as usize;
@@ -231,8 +232,8 @@ fn show(
     start: Out,
 ) -> Out
     requires { ⌜ (moveSize * M most ≤ length (now log)) × (most ≤ length (now table)) × Roomy (now buf) (start .used) ⌝ }
-    ensures { λ r. ⌜ Collects (now (buf .entry)) (start .used) (viewText (listAnswer (now (read .entry)) 0 (now (list .entry))) (now (read .entry)))
-        (now (buf .exit)) (r .used) ⌝ }
+    ensures { λ r. ⌜ Collects (now (buf .entry)) start (viewText (listAnswer (now (read .entry)) 0 (now (list .entry))) (now (read .entry)))
+        (now (buf .exit)) r ⌝ }
 {
     let a = call_answers::listed(lister::list(read, 0, list));
     if a.number == 0 {
@@ -252,7 +253,7 @@ fn answer(
     start: Out,
 ) -> Out
     requires { ⌜ Bench (now line) (now list) (now log) (now table) × Roomy (now buf) (start .used) ⌝ }
-    ensures { λ r. ⌜ Viewed (now (line .entry)) len (now (list .entry)) (now (buf .entry)) (start .used) (now (buf .exit)) (r .used) ⌝ }
+    ensures { λ r. ⌜ Viewed (now (line .entry)) len (now (buf .entry)) start (now (buf .exit)) r ⌝ }
 {
     if MOST < len {
         return collect_refusal(1, len as u64, buf, start);
@@ -260,14 +261,7 @@ fn answer(
     show(&line[..len], list, log, table, buf, start)
 }
 
-// where the program stands between two lines: `more` is false once the input has ended, or a read or a write failed
-struct State {
-    more: bool,
-    source: Source,
-    out: Out,
-}
-
-// the next line, answered
+// one turn: the line that it found is answered
 fn step(
     input: &mut [u8],
     line: &mut [u8],
@@ -278,25 +272,18 @@ fn step(
     s: State,
 ) -> State
     requires { ⌜ Within (now input) (s .source) × Bench (now line) (now list) (now log) (now table) × Roomy (now buf) (s .out .used) ⌝ }
-    ensures { λ r. ⌜ Stepped (now (input .entry)) (now (list .entry)) (now (buf .entry)) s (now (line .exit)) (now (buf .exit)) r ⌝ }
+    ensures { λ r. ⌜ Advances viewed (now (input .entry)) (now (line .entry)) (now (buf .entry)) s
+        (now (input .exit)) (now (line .exit)) (now (buf .exit)) r ⌝ }
 {
-    let source = s.source;
-    let o = s.out;
-    let l = text_streams::next_line(input, line, source);
-    let next = l.source;
-    if l.found {
-        let after = answer(line, l.len, list, log, table, buf, o);
-        return State {
-            more: after.ok,
-            source: next,
-            out: after,
-        };
+    let t = text_streams::turn(input, line, buf, s);
+    let after = t.state;
+    if t.found {
+        let source = after.source;
+        let o = after.out;
+        let out = answer(line, t.len, list, log, table, buf, o);
+        return State { source, out };
     }
-    State {
-        more: false,
-        source: next,
-        out: o,
-    }
+    after
 }
 
 // all lines. Nothing says that the input ends, so the loop counts its turns down, from a number that no run uses up.
@@ -309,21 +296,13 @@ fn all(
     buf: &mut [u8],
 ) -> Out
     requires { ⌜ Bench (now line) (now list) (now log) (now table) × Roomy (now buf) 0 ⌝ }
-    ensures { λ r. ⌜ r .used ≤ length (now (buf .entry)) ⌝ }
+    ensures { λ r. ⌜ (r .used ≤ length (now (buf .exit))) × Stopped viewed (now (buf .exit)) r ⌝ }
 {
-    let mut s = State {
-        more: true,
-        source: Source {
-            from: 0,
-            end: 0,
-            more: true,
-        },
-        out: Out { used: 0, ok: true },
-    };
+    let mut s = text_streams::begin();
     let mut turns = u64::MAX;
     while turns > 0 {
         s = step(input, line, list, log, table, buf, s);
-        if !s.more {
+        if !text_streams::goes_on(s) {
             return s.out;
         }
         turns -= 1;
@@ -341,12 +320,18 @@ fn run(
     buf: &mut [u8],
 )
     requires { ⌜ Bench (now line) (now list) (now log) (now table) × Roomy (now buf) 0 ⌝ }
+    ensures { λ _. ⌜ Ran viewed ⌝ }
 {
     let o = all(input, line, list, log, table, buf);
     text_streams::flush(buf, o);
 }
 
 fn main() {
+    let help =
+        b"bench_view reads lines from standard input and shows for each, width by width,\nits groups as the log alone gives them, the moves and the list's lines, and whether\nlist and groups agree. A failed read or write is told on standard error.\n";
+    if text_pipes::helped(help) {
+        return;
+    }
     let mut input = [0u8; 65536];
     let mut line = [0u8; 1001];
     let mut list = [0u16; 30000];

@@ -8,3 +8,4 @@ pub mod Shorter
 pub mod Repeated
 pub mod Said
 pub mod Motifs
+pub mod Settled

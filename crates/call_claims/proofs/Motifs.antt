@@ -1,13 +1,12 @@
 -- The motif is the part of the read that the claim names: it lies in the read, and the part that the code takes has its bytes and its
 -- place. Assumes nothing.
 use Prim.Native.Nat.{ℕ, _+_, _-_, _≤_}
-use mathlib.Core.Path.{_≡_, sym, _∙_}
+use mathlib.Core.Path.{_≡_}
 use mathlib.Core.Bool.{true, false, not}
 use mathlib.Core.List.{List}
 use native.Mathlib.Omega.{arith}
 use native.Mathlib.Nat.{mul-le-mul-left}
 use lib.ListN.{length, take, drop}
-use denote.Ref.{RefT, ptr, now}
 use Rattle.words.specs.Repeats.{repeats}
 use Rattle.words.specs.Calls.{tooLong, shown, motif, motifFrom}
 use Rattle.words.proofs.Tests.{and-right}
@@ -38,11 +37,3 @@ module _ (x : List ℕ) (i p e : ℕ) where
     pub hidden-from : (o : ℕ) → o ≡ o + motifFrom x i p e
     unfolding motifFrom
     hidden-from o = rw t (omega arith)
-
--- what the contract of `motif` says of the part r of the read s
-abbrev Handed : ℕ → ℕ → ℕ → RefT (List ℕ) → RefT (List ℕ) → Type 0
-Handed i p e s r = (now r ≡ motif (now s) i p e) × (ptr r .0 ≡ ptr s .0) × (ptr r .1 ≡ ptr s .1 + motifFrom (now s) i p e)
-
--- two parts that it allows are the same part: they have the same bytes, and start at the same place
-pub motif-settled : (i p e : ℕ) (s q r : RefT (List ℕ)) → Handed i p e s q → Handed i p e s r → (now q ≡ now r) × (ptr q ≡ ptr r)
-motif-settled i p e s q r a b = (a .0 ∙ sym (b .0), λ j. ((a .1 ∙ sym (b .1)) j, (a .2 ∙ sym (b .2)) j))

@@ -66,7 +66,3 @@ module _ (x : List ℕ) (i p e : ℕ) where
       go true r = refl
       go false true = refl
       go false false = refl
-
-  -- two answers that the contract of `claim` allows are equal
-  pub claim-settled : (a b : Claimed) → claimedSays a ≡ claimAnswer x i p e → claimedSays b ≡ claimAnswer x i p e → a ≡ b
-  claim-settled a b s t = said-once a b (s ∙ sym t)

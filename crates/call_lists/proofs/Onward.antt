@@ -32,7 +32,7 @@ listing-none f out = record { same = refl; count = omega arith; front = λ h. re
 module _ (n : ℕ) (name small block size prev dist head after before : List ℕ) where
   -- the next position of a group lies in the read
   pub held-near : Held n name small block size prev dist head after before → (p : ℕ) → 1 ≤ p → Near p dist
-  held-near H p l = record { some = l; long = H .lists .ld; inside = λ i a b e. ⊎-elim (λ h. absurd (omega (arith, l, e, H .beyond i h b))) (inside i a e) (lt-or-ge n i) }
+  held-near H p l = record { some = l; long = H .lists .ld; inside = λ i a b e. ⊎-elim (λ h. absurd (omega (arith, l, e, H .dist-beyond i h b))) (inside i a e) (lt-or-ge n i) }
     where
       inside : (i : ℕ) → 1 ≤ i → at dist i ≡ p → i ≤ n → i + p ≤ 1000
       inside i a e h =
@@ -45,7 +45,7 @@ module _ (n : ℕ) (name small block size prev dist head after before : List ℕ
       record {
         few = omega (arith, S .held .few, S .long);
         held = stands-gap x p n name small block size prev dist head after before S;
-        beyond = λ i a b. S .held .beyond i (omega (arith, a, S .long)) b;
+        beyond = λ i a b. S .held .dist-beyond i (omega (arith, a, S .long)) b;
       }
 
   -- the lines of period d + 1 come after those of the periods 1 to d

@@ -72,6 +72,6 @@ said-answered (Listed.TooLong n) = refl
 said-answered (Listed.BadMode m) = refl
 said-answered (Listed.ListFull c) = refl
 
--- two answers and two slices that the contract of `list` allows are equal
-pub list-settled : (x : List ℕ) (mode : ℕ) (out : List ℕ) (a b : Listed) (u v : List ℕ) → Says x mode out a u → Says x mode out b v → (a ≡ b) × (u ≡ v)
-list-settled x mode out a b u v s t = (sym (said-answered a) ∙ ap answered (s .0 ∙ sym (t .0)) ∙ said-answered b, s .1 ∙ sym (t .1))
+-- no two answers say the same
+pub said-once : (a b : Listed) → listedSays a ≡ listedSays b → a ≡ b
+said-once a b s = sym (said-answered a) ∙ ap answered s ∙ said-answered b

@@ -1,4 +1,5 @@
 pub mod Takes
 pub mod Walks
+pub mod Learnt
 pub mod Settled
 mod Held

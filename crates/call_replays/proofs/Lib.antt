@@ -3,3 +3,4 @@ pub mod Renaming
 pub mod Turns
 pub mod Widths
 pub mod Said
+pub mod Settled

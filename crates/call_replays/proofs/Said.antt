@@ -1,5 +1,5 @@
--- What the replay answers and leaves, way by way: each refusal at its place in the order, and the table otherwise; and that the contract settles both.
--- Assumes nothing.
+-- What the replay answers and leaves, way by way: each refusal at its place in the order, and the table otherwise; and no two answers say the
+-- same. Assumes nothing.
 use Prim.Native.Nat.{ℕ, _≤_, _<_}
 use mathlib.Core.Path.{_≡_, refl, sym, ap, _∙_}
 use mathlib.Core.Bool.{true, false, _||_, not, cond}
@@ -67,7 +67,7 @@ module _ (x l : List ℕ) (w : ℕ) (out : List ℕ) where
             rw (le-ltb 1000 (length x) short, wide, le-ltb (length out) (length x) room, t)
             (refl, rw (success-front (replay x l w) out (length x), replay-least x l w .1) f)
 
--- ---- the contract settles the result and the slice
+-- ---- no two answers say the same
 
 -- an answer read back
 answered : Answer → Replayed
@@ -87,10 +87,5 @@ said-answered (Replayed.BadWidth w) = refl
 said-answered (Replayed.NoRoom n) = refl
 said-answered (Replayed.BadEntry k) = refl
 
--- no two answers say the same
 pub said-once : (r s : Replayed) → replayedSays r ≡ replayedSays s → r ≡ s
 said-once r s e = sym (said-answered r) ∙ ap answered e ∙ said-answered s
-
--- two results that the contract of `replay` allows are equal, and so is what they leave
-pub replay-settled : (x l : List ℕ) (w : ℕ) (out : List ℕ) (r s : Replayed) (o p : List ℕ) → Gives x l w out (replayedSays r) o → Gives x l w out (replayedSays s) p → (r ≡ s) × (o ≡ p)
-replay-settled x l w out r s o p a b = (said-once r s (a .0 ∙ sym (b .0)), a .1 ∙ sym (b .1))

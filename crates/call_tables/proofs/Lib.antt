@@ -2,3 +2,4 @@ pub mod Stays
 pub mod Reached
 pub mod Copied
 pub mod Said
+pub mod Settled

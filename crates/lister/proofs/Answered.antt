@@ -1,17 +1,16 @@
--- Each refusal of each call, exactly when its rule and its place in the order say, with its value and what it leaves in the slice: the cases
--- of each record rule each other out and leave none over. Assumes nothing.
-use Prim.Native.Nat.{ℕ, _*_, _≤_, _<_}
-use mathlib.Core.Path.{_≡_, refl}
+-- The answers and slices that the contracts name go by the tables of the calls: in each table one row holds, and what it says is so.
+-- Assumes nothing.
+use Prim.Native.Nat.{ℕ, zero, suc, _*_, _≤_, _<_}
+use mathlib.Core.Path.{_≡_, refl, sym, ap, subst, _∙_}
 use mathlib.Core.Logic.{_⊎_, inl, inr, ⊎-elim}
-use mathlib.Core.Bool.{true, false}
-use mathlib.Core.List.{List}
+use mathlib.Core.Bool.{true, false, _||_, not}
+use mathlib.Core.List.{List, []}
 use native.Mathlib.Omega.{arith}
-use lib.ListN.{length, replicate}
+use lib.ListN.{length}
+use lib.Dec.{eqb}
 use borrow.Author.Tests.{lt-ltb, le-ltb, le-leb, lt-leb, eq-eqb, ne-eqb}
-use Rattle.words.specs.Range.{bit}
 use Rattle.words.specs.Rows.{rows}
 use Rattle.words.specs.Reads.{most}
-use Rattle.words.specs.Repeats.{repeats}
 use Rattle.words.specs.Lists.{lineSize, lines, lineCount, inMode}
 use Rattle.words.specs.Groups.{table}
 use Rattle.words.specs.Moves.{topOf, moveSize, log, M}
@@ -19,12 +18,22 @@ use Rattle.words.specs.Replay.{replay}
 use Rattle.words.specs.Logs.{within, firstBad, wellFormed}
 use Rattle.words.specs.Answers.{Answer, success, refusal}
 use Rattle.words.specs.Calls.{refuse, tooLong, listAnswer, listLeaves, tableAnswer, tableLeaves, logAnswer, logLeaves, replayAnswer, replayLeaves, claimAnswer}
-use Rattle.words.proofs.Tests.{lt-or-ge}
-use Rattle.words.proofs.Afterwards.{front, success-front, success-list, list-full, refused-same, refused-list}
+use Rattle.words.proofs.Tests.{either, or-left, or-right, lt-or-ge}
+use Rattle.words.proofs.Afterwards.{success-front, success-list, list-full, refused-same, refused-list}
+use Rattle.lister.proofs.Refusals.{Row, rowAt, Follows, By, listRows, tableRows, logRows, ReplayWidth, replayRows, claimRows}
 
--- a call answers a and leaves b in the slice that it was lent
-abbrev pub Says : Answer → List ℕ → Answer → List ℕ → Type 0
-Says answer slice a b = (answer ≡ a) × (slice ≡ b)
+-- where some row holds and each that holds is followed, the answer goes by the table
+goes-by : (t : List Row) (a : Answer) (s : List ℕ) → (k : ℕ) × rowAt t k .when → Follows t a s → By t a s
+unfolding refusal
+goes-by t a s w g =
+    let number : (k : ℕ) → rowAt t k .when → a .number ≡ k = λ k h. ap (λ (b : Answer). b .number) (g k h .0) in
+    record { exactly = λ k. (λ e. subst (λ (j : ℕ). rowAt t j .when) (sym (number (w .0) (w .1)) ∙ e) (w .1), number k); gives = g }
+
+-- what a contract says is equal to an answer and a slice that go by a table goes by it too
+pub by-equal : {t : List Row} {a b : Answer} {s u : List ℕ} → a ≡ b → s ≡ u → By t b u → By t a s
+by-equal e f B = rw (e, f) B
+
+-- ---- the tests
 
 module _ (x : List ℕ) where
   long-yes : most < length x → tooLong x ≡ true
@@ -46,76 +55,110 @@ module _ (a b v : ℕ) where
   in-no (inl h) = rw (lt-leb a v h)
   in-no (inr h) = ⊎-elim (λ l. rw (lt-leb a v l)) (λ l. rw (le-leb a v l, lt-leb v b h)) (lt-or-ge v a)
 
-pub record ListDecided (x : List ℕ) (mode : ℕ) (out : List ℕ) : Type 0 where
-  pub long : most < length x → Says (listAnswer x mode out) (listLeaves x mode out) (refusal 1 (length x)) out
-  pub mode-bad : length x ≤ most → 1 < mode → Says (listAnswer x mode out) (listLeaves x mode out) (refusal 2 mode) out
-  pub list-full : length x ≤ most → mode ≤ 1 → rows lineSize out < lineCount x (inMode x mode) → Says (listAnswer x mode out) (listLeaves x mode out) (refusal 3 (lineCount x (inMode x mode))) (replicate (length out) 0)
-  pub done : length x ≤ most → mode ≤ 1 → lineCount x (inMode x mode) ≤ rows lineSize out → Says (listAnswer x mode out) (listLeaves x mode out) (success (lineCount x (inMode x mode))) (front (lines x (inMode x mode)) out)
+-- ---- the calls
 
-pub list-decided : (x : List ℕ) (mode : ℕ) (out : List ℕ) → ListDecided x mode out
-unfolding listAnswer listLeaves refuse
-list-decided x mode out =
-    record {
-      long = λ h. rw (long-yes x h) (refl, refused-list (lines x (inMode x mode)) out 1 (length x) refl refl);
-      mode-bad = λ h m. rw (long-no x h, in-no 0 1 mode (inr m)) (refl, refused-list (lines x (inMode x mode)) out 2 mode refl refl);
-      list-full = λ h m l. rw (long-no x h, in-yes 0 1 mode (omega arith) m, lt-ltb (rows lineSize out) (lineCount x (inMode x mode)) l) (refl, list-full (lines x (inMode x mode)) out (lineCount x (inMode x mode)));
-      done = λ h m l. rw (long-no x h, in-yes 0 1 mode (omega arith) m, le-ltb (rows lineSize out) (lineCount x (inMode x mode)) l) (refl, success-list (lines x (inMode x mode)) out (lineCount x (inMode x mode)));
-    }
+module _ (x : List ℕ) (mode : ℕ) (out : List ℕ) where
+  abbrev made : List ℕ
+  made = lines x (inMode x mode)
 
-pub record TableDecided (x : List ℕ) (w : ℕ) (out : List ℕ) : Type 0 where
-  pub long : most < length x → Says (tableAnswer x w out) (tableLeaves x w out) (refusal 1 (length x)) out
-  pub width-bad : length x ≤ most → (w < 1) ⊎ (length x < w) → Says (tableAnswer x w out) (tableLeaves x w out) (refusal 2 w) out
-  pub no-room : length x ≤ most → 1 ≤ w → w ≤ length x → length out < length x → Says (tableAnswer x w out) (tableLeaves x w out) (refusal 4 (length x)) out
-  pub done : length x ≤ most → 1 ≤ w → w ≤ length x → length x ≤ length out → Says (tableAnswer x w out) (tableLeaves x w out) (success (length x)) (front (table x w) out)
+  abbrev count : ℕ
+  count = lineCount x (inMode x mode)
 
-pub table-decided : (x : List ℕ) (w : ℕ) (out : List ℕ) → TableDecided x w out
-unfolding tableAnswer tableLeaves refuse
-table-decided x w out =
-    record {
-      long = λ h. rw (long-yes x h) (refl, refused-same (table x w) out 1 (length x) refl);
-      width-bad = λ h m. rw (long-no x h, in-no 1 (length x) w m) (refl, refused-same (table x w) out 2 w refl);
-      no-room = λ h a b l. rw (long-no x h, in-yes 1 (length x) w a b, lt-ltb (length out) (length x) l) (refl, refused-same (table x w) out 4 (length x) refl);
-      done = λ h a b l. rw (long-no x h, in-yes 1 (length x) w a b, le-ltb (length out) (length x) l) (refl, success-front (table x w) out (length x));
-    }
+  pub list-by : By (listRows x mode out) (listAnswer x mode out) (listLeaves x mode out)
+  unfolding listAnswer listLeaves refuse success refusal
+  list-by = goes-by (listRows x mode out) _ _ (which (lt-or-ge most (length x)) (lt-or-ge 1 mode) (lt-or-ge (rows lineSize out) count)) gives
+    where
+      which : (most < length x) ⊎ (length x ≤ most) → (1 < mode) ⊎ (mode ≤ 1) → (rows lineSize out < count) ⊎ (count ≤ rows lineSize out) → (k : ℕ) × rowAt (listRows x mode out) k .when
+      which (inl h) m l = (1, h)
+      which (inr h) (inl m) l = (2, (h, m))
+      which (inr h) (inr m) (inl l) = (3, (h, m, l))
+      which (inr h) (inr m) (inr l) = (0, (h, m, l))
 
-pub record LogDecided (x out : List ℕ) : Type 0 where
-  pub long : most < length x → Says (logAnswer x out) (logLeaves x out) (refusal 1 (length x)) out
-  pub no-room : length x ≤ most → length out < moveSize * M (length x) → Says (logAnswer x out) (logLeaves x out) (refusal 4 (moveSize * M (length x))) out
-  pub done : length x ≤ most → moveSize * M (length x) ≤ length out → Says (logAnswer x out) (logLeaves x out) (success (rows moveSize (log x))) (front (log x) out)
+      gives : Follows (listRows x mode out) (listAnswer x mode out) (listLeaves x mode out)
+      gives zero w = rw (long-no x (w .0), in-yes 0 1 mode (omega arith) (w .1), le-ltb (rows lineSize out) count (w .2)) (refl, success-list made out count)
+      gives (suc zero) w = rw (long-yes x w) (refl, refused-list made out 1 (length x) refl refl)
+      gives (suc (suc zero)) w = rw (long-no x (w .0), in-no 0 1 mode (inr (w .1))) (refl, refused-list made out 2 mode refl refl)
+      gives (suc (suc (suc zero))) w = rw (long-no x (w .0), in-yes 0 1 mode (omega arith) (w .1), lt-ltb (rows lineSize out) count (w .2)) (refl, list-full made out count)
+      gives (suc (suc (suc (suc k)))) w = absurd w
 
-pub log-decided : (x out : List ℕ) → LogDecided x out
-unfolding logAnswer logLeaves refuse
-log-decided x out =
-    record {
-      long = λ h. rw (long-yes x h) (refl, refused-same (log x) out 1 (length x) refl);
-      no-room = λ h l. rw (long-no x h, lt-ltb (length out) (moveSize * M (length x)) l) (refl, refused-same (log x) out 4 (moveSize * M (length x)) refl);
-      done = λ h l. rw (long-no x h, le-ltb (length out) (moveSize * M (length x)) l) (refl, success-front (log x) out (rows moveSize (log x)));
-    }
+module _ (x : List ℕ) (w : ℕ) (out : List ℕ) where
+  pub table-by : By (tableRows x w out) (tableAnswer x w out) (tableLeaves x w out)
+  unfolding tableAnswer tableLeaves refuse success refusal
+  table-by = goes-by (tableRows x w out) _ _ (which (lt-or-ge most (length x)) (lt-or-ge w 1) (lt-or-ge (length x) w) (lt-or-ge (length out) (length x))) gives
+    where
+      which : (most < length x) ⊎ (length x ≤ most) → (w < 1) ⊎ (1 ≤ w) → (length x < w) ⊎ (w ≤ length x) → (length out < length x) ⊎ (length x ≤ length out) → (k : ℕ) × rowAt (tableRows x w out) k .when
+      which (inl h) a b r = (1, h)
+      which (inr h) (inl a) b r = (2, (h, inl a))
+      which (inr h) (inr a) (inl b) r = (2, (h, inr b))
+      which (inr h) (inr a) (inr b) (inl r) = (4, (h, a, b, r))
+      which (inr h) (inr a) (inr b) (inr r) = (0, (h, a, b, r))
 
-pub record ReplayDecided (x l : List ℕ) (w : ℕ) (out : List ℕ) : Type 0 where
-  pub long : most < length x → Says (replayAnswer x l w out) (replayLeaves x l w out) (refusal 1 (length x)) out
-  pub empty : length x ≡ 0 → Says (replayAnswer x l w out) (replayLeaves x l w out) (refusal 2 w) out
-  pub width-bad : length x ≤ most → 1 ≤ length x → (w < 1) ⊎ (topOf (length x) < w) → Says (replayAnswer x l w out) (replayLeaves x l w out) (refusal 2 w) out
-  pub no-room : length x ≤ most → 1 ≤ length x → 1 ≤ w → w ≤ topOf (length x) → length out < length x → Says (replayAnswer x l w out) (replayLeaves x l w out) (refusal 4 (length x)) out
-  pub log-bad : length x ≤ most → 1 ≤ length x → 1 ≤ w → w ≤ topOf (length x) → length x ≤ length out → wellFormed (length x) l ≡ false → Says (replayAnswer x l w out) (replayLeaves x l w out) (refusal 5 (firstBad (length x) l)) out
-  pub done : length x ≤ most → 1 ≤ length x → 1 ≤ w → w ≤ topOf (length x) → length x ≤ length out → wellFormed (length x) l ≡ true → Says (replayAnswer x l w out) (replayLeaves x l w out) (success (length x)) (front (replay x l w) out)
+      gives : Follows (tableRows x w out) (tableAnswer x w out) (tableLeaves x w out)
+      gives zero h = rw (long-no x (h .0), in-yes 1 (length x) w (h .1) (h .2), le-ltb (length out) (length x) (h .3)) (refl, success-front (table x w) out (length x))
+      gives (suc zero) h = rw (long-yes x h) (refl, refused-same (table x w) out 1 (length x) refl)
+      gives (suc (suc zero)) h = rw (long-no x (h .0), in-no 1 (length x) w (h .1)) (refl, refused-same (table x w) out 2 w refl)
+      gives (suc (suc (suc zero))) h = absurd h
+      gives (suc (suc (suc (suc zero)))) h = rw (long-no x (h .0), in-yes 1 (length x) w (h .1) (h .2), lt-ltb (length out) (length x) (h .3)) (refl, refused-same (table x w) out 4 (length x) refl)
+      gives (suc (suc (suc (suc (suc k))))) h = absurd h
 
-pub replay-decided : (x l : List ℕ) (w : ℕ) (out : List ℕ) → ReplayDecided x l w out
-unfolding replayAnswer replayLeaves refuse
-replay-decided x l w out =
-    record {
-      long = λ h. rw (long-yes x h) (refl, refused-same (replay x l w) out 1 (length x) refl);
-      empty = λ e. rw (long-no x (omega arith), eq-eqb (length x) 0 e) (refl, refused-same (replay x l w) out 2 w refl);
-      width-bad = λ h n m. rw (long-no x h, ne-eqb (length x) 0 (omega arith), in-no 1 (topOf (length x)) w m) (refl, refused-same (replay x l w) out 2 w refl);
-      no-room = λ h n a b r. rw (long-no x h, ne-eqb (length x) 0 (omega arith), in-yes 1 (topOf (length x)) w a b, lt-ltb (length out) (length x) r) (refl, refused-same (replay x l w) out 4 (length x) refl);
-      log-bad = λ h n a b r g. rw (long-no x h, ne-eqb (length x) 0 (omega arith), in-yes 1 (topOf (length x)) w a b, le-ltb (length out) (length x) r, g) (refl, refused-same (replay x l w) out 5 (firstBad (length x) l) refl);
-      done = λ h n a b r g. rw (long-no x h, ne-eqb (length x) 0 (omega arith), in-yes 1 (topOf (length x)) w a b, le-ltb (length out) (length x) r, g) (refl, success-front (replay x l w) out (length x));
-    }
+module _ (x out : List ℕ) where
+  pub log-by : By (logRows x out) (logAnswer x out) (logLeaves x out)
+  unfolding logAnswer logLeaves refuse success refusal
+  log-by = goes-by (logRows x out) _ _ (which (lt-or-ge most (length x)) (lt-or-ge (length out) (moveSize * M (length x)))) gives
+    where
+      which : (most < length x) ⊎ (length x ≤ most) → (length out < moveSize * M (length x)) ⊎ (moveSize * M (length x) ≤ length out) → (k : ℕ) × rowAt (logRows x out) k .when
+      which (inl h) r = (1, h)
+      which (inr h) (inl r) = (4, (h, r))
+      which (inr h) (inr r) = (0, (h, r))
 
-pub record ClaimDecided (x : List ℕ) (i p e : ℕ) : Type 0 where
-  pub long : most < length x → claimAnswer x i p e ≡ refusal 1 (length x)
-  pub done : length x ≤ most → claimAnswer x i p e ≡ success (bit (repeats x i p e))
+      gives : Follows (logRows x out) (logAnswer x out) (logLeaves x out)
+      gives zero h = rw (long-no x (h .0), le-ltb (length out) (moveSize * M (length x)) (h .1)) (refl, success-front (log x) out (rows moveSize (log x)))
+      gives (suc zero) h = rw (long-yes x h) (refl, refused-same (log x) out 1 (length x) refl)
+      gives (suc (suc zero)) h = absurd h
+      gives (suc (suc (suc zero))) h = absurd h
+      gives (suc (suc (suc (suc zero)))) h = rw (long-no x (h .0), lt-ltb (length out) (moveSize * M (length x)) (h .1)) (refl, refused-same (log x) out 4 (moveSize * M (length x)) refl)
+      gives (suc (suc (suc (suc (suc k))))) h = absurd h
 
-pub claim-decided : (x : List ℕ) (i p e : ℕ) → ClaimDecided x i p e
-unfolding claimAnswer refuse
-claim-decided x i p e = record { long = λ h. rw (long-yes x h); done = λ h. rw (long-no x h) }
+module _ (x l : List ℕ) (w : ℕ) (out : List ℕ) where
+  width-bad : (length x ≡ 0) ⊎ ((w < 1) ⊎ (topOf (length x) < w)) → eqb (length x) 0 || not (within 1 (topOf (length x)) w) ≡ true
+  width-bad (inl e) = or-left (eqb (length x) 0) _ (eq-eqb (length x) 0 e)
+  width-bad (inr m) = or-right (eqb (length x) 0) _ (ap not (in-no 1 (topOf (length x)) w m))
+
+  width-good : ReplayWidth (length x) w → eqb (length x) 0 || not (within 1 (topOf (length x)) w) ≡ false
+  width-good h = rw (ne-eqb (length x) 0 (omega (arith, h .0)), in-yes 1 (topOf (length x)) w (h .1) (h .2))
+
+  pub replay-by : By (replayRows x l w out) (replayAnswer x l w out) (replayLeaves x l w out)
+  unfolding replayAnswer replayLeaves refuse success refusal
+  replay-by =
+      goes-by (replayRows x l w out) _ _
+      (which (lt-or-ge most (length x)) (lt-or-ge (length x) 1) (lt-or-ge w 1) (lt-or-ge (topOf (length x)) w) (lt-or-ge (length out) (length x)) (either (wellFormed (length x) l)))
+      gives
+    where
+      which : (most < length x) ⊎ (length x ≤ most) → (length x < 1) ⊎ (1 ≤ length x) → (w < 1) ⊎ (1 ≤ w) → (topOf (length x) < w) ⊎ (w ≤ topOf (length x))
+          → (length out < length x) ⊎ (length x ≤ length out) → (wellFormed (length x) l ≡ true) ⊎ (wellFormed (length x) l ≡ false) → (k : ℕ) × rowAt (replayRows x l w out) k .when
+      which (inl h) n a b r g = (1, h)
+      which (inr h) (inl n) a b r g = (2, (h, inl (omega arith)))
+      which (inr h) (inr n) (inl a) b r g = (2, (h, inr (inl a)))
+      which (inr h) (inr n) (inr a) (inl b) r g = (2, (h, inr (inr b)))
+      which (inr h) (inr n) (inr a) (inr b) (inl r) g = (4, (h, (n, a, b), r))
+      which (inr h) (inr n) (inr a) (inr b) (inr r) (inl g) = (0, (h, (n, a, b), r, g))
+      which (inr h) (inr n) (inr a) (inr b) (inr r) (inr g) = (5, (h, (n, a, b), r, g))
+
+      gives : Follows (replayRows x l w out) (replayAnswer x l w out) (replayLeaves x l w out)
+      gives zero h = rw (long-no x (h .0), width-good (h .1), le-ltb (length out) (length x) (h .2), h .3) (refl, success-front (replay x l w) out (length x))
+      gives (suc zero) h = rw (long-yes x h) (refl, refused-same (replay x l w) out 1 (length x) refl)
+      gives (suc (suc zero)) h = rw (long-no x (h .0), width-bad (h .1)) (refl, refused-same (replay x l w) out 2 w refl)
+      gives (suc (suc (suc zero))) h = absurd h
+      gives (suc (suc (suc (suc zero)))) h = rw (long-no x (h .0), width-good (h .1), lt-ltb (length out) (length x) (h .2)) (refl, refused-same (replay x l w) out 4 (length x) refl)
+      gives (suc (suc (suc (suc (suc zero))))) h = rw (long-no x (h .0), width-good (h .1), le-ltb (length out) (length x) (h .2), h .3) (refl, refused-same (replay x l w) out 5 (firstBad (length x) l) refl)
+      gives (suc (suc (suc (suc (suc (suc k)))))) h = absurd h
+
+module _ (x : List ℕ) (i p e : ℕ) where
+  pub claim-by : By (claimRows x i p e) (claimAnswer x i p e) []
+  unfolding claimAnswer refuse success refusal
+  claim-by = goes-by (claimRows x i p e) _ _ (⊎-elim (λ h. (1, h)) (λ h. (0, h)) (lt-or-ge most (length x))) gives
+    where
+      gives : Follows (claimRows x i p e) (claimAnswer x i p e) []
+      gives zero h = (rw (long-no x h), refl)
+      gives (suc zero) h = (rw (long-yes x h), refl)
+      gives (suc (suc k)) h = absurd h

@@ -1,2 +1,5 @@
+pub mod Refusals
 pub mod Answered
+pub mod Handed
+pub mod Steps
 pub mod Demands

@@ -18,24 +18,33 @@ use Rattle.step_slots.specs.Slots.{view}
 use Rattle.step_slots.proofs.Laws.{view-length, view-is}
 use Rattle.step_distances.specs.Lists.{Lists, Fillable}
 use Rattle.step_refine.specs.Links.{Linked}
-use Rattle.step_refine.specs.Phases.{Clean, Sized, FlagsOf, Flagged, Marked}
+use Rattle.step_refine.specs.Phases.{Bare, Kept, Sized, FlagsOf, Flagged, Marked}
+use Rattle.step_refine.proofs.Zeros.{zeros-clean}
 use Rattle.step_refine.proofs.Links.{Nearest, gap-nearest}
 use Rattle.partition.specs.Held.{Held, Scratch}
 
--- an array of zeros
-pub zeros : Clean (replicate 1000 0)
-unfolding at
-zeros = record { long = length-replicate {A = ℕ} 1000 0; none = λ i a b. getD-replicate 1000 (i - 1) 0 0 (omega arith) }
+-- an array of zeros in which nothing was written beyond n
+pub zeros-bare : (n : ℕ) (a : List ℕ) → Kept n (replicate 1000 0) a → Bare n a
+zeros-bare n a K i l b = K i l b ∙ zeros-clean .none i (omega arith) b
+
+-- zeros as flags, and no block marked
+pub marks-zeros : Marked (replicate 1000 0) (replicate 32 0)
+marks-zeros =
+    record {
+      long = length-replicate {A = ℕ} 32 0;
+      held = λ s a b e. absurd (omega (arith, e, zeros-clean .none s a b));
+      only = λ b l. inl (getD-replicate 32 b 0 0 l);
+    }
 
 pub scratch-zeros : Scratch (replicate 1000 0) (replicate 1000 0) (replicate 1000 0) (replicate 1000 0) (replicate 1000 0) (replicate 1000 0)
 scratch-zeros =
     record {
-      que-long = zeros .long;
-      part-clean = zeros;
-      last-long = zeros .long;
-      tail-clean = zeros;
-      rest-long = zeros .long;
-      best-long = zeros .long;
+      que-long = zeros-clean .long;
+      part-clean = zeros-clean;
+      last-long = zeros-clean .long;
+      tail-clean = zeros-clean;
+      rest-long = zeros-clean .long;
+      best-long = zeros-clean .long;
     }
 
 -- where every group is small, flags are flags of names
@@ -53,7 +62,7 @@ flags-of-all t small F = record { long = F .long; flag = λ s a b. flag s a b (l
         go true q = inr (e ∙ ap bit q, l, eqb-true (at t s) s q)
         go false q = inl (e ∙ ap bit q)
 
-module _ (x name prev dist : List ℕ) (few : length x ≤ 1000) (name-long : length name ≡ 1000) (names : view (length x) name ≡ table x 1) (links : Linked (table x 1) dist prev) (beyond : (i : ℕ) → length x < i → i ≤ 1000 → at dist i ≡ 0) where
+module _ (x name prev dist : List ℕ) (few : length x ≤ 1000) (name-long : length name ≡ 1000) (names : view (length x) name ≡ table x 1) (links : Linked (table x 1) dist prev) (beyond : Bare (length x) dist) where
   pub names-least : Least (view (length x) name)
   names-least = rw names (table-least x 1)
 
@@ -63,12 +72,12 @@ module _ (x name prev dist : List ℕ) (few : length x ≤ 1000) (name-long : le
       record {
         small = few;
         ld = l;
-        lh = zeros .long;
-        la = zeros .long;
-        lb = zeros .long;
+        lh = zeros-clean .long;
+        la = zeros-clean .long;
+        lb = zeros-clean .long;
         low = λ i p. low i (p .0) (p .1) (lt-or-ge (length x) i);
         past = beyond;
-        bare = λ d p. zeros .none d (p .0) (p .1);
+        bare = λ d p. zeros-clean .none d (p .0) (p .1);
       }
     where
       low : (i : ℕ) → 1 ≤ i → i ≤ 1000 → (length x < i) ⊎ (i ≤ length x) → at dist i < 1000
@@ -78,20 +87,22 @@ module _ (x name prev dist : List ℕ) (few : length x ≤ 1000) (name-long : le
           let N : Nearest (table x 1) i (gap (table x 1) i) = gap-nearest (table x 1) i c in
           omega (arith, links .next i a c, N .high, table-length x 1)
 
-  module _ (small block sizes head after before : List ℕ) (prev-long : length prev ≡ 1000) (sized : Sized (view (length x) name) sizes) (flagged : Flagged (allSmall (view (length x) name)) small) (marked : Marked small block) (lists : Lists dist head after before) where
+  module _ (small block sizes head after before : List ℕ) (prev-long : length prev ≡ 1000) (name-beyond : Bare (length x) name) (prev-beyond : Bare (length x) prev) (sized : Sized (view (length x) name) sizes) (flagged : Flagged (allSmall (view (length x) name)) small) (marked : Marked small block) (lists : Lists dist head after before) where
     pub fresh-held : Held (length x) name small block sizes prev dist head after before
     fresh-held =
         record {
           few = few;
           name-long = name-long;
           prev-long = prev-long;
+          name-beyond = name-beyond;
+          prev-beyond = prev-beyond;
+          dist-beyond = beyond;
           least = names-least;
           flags = flags-of-all (view (length x) name) small flagged;
           marks = marked;
           sized = sized;
           links = rw names links;
           lists = lists;
-          beyond = beyond;
         }
 
     pub fresh-flags : view (length x) small ≡ smalls x 1

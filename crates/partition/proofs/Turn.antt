@@ -58,6 +58,7 @@ module _ (n : ℕ) (name small block sizes prev dist head after before : List �
           queued = omega (arith, count, queue-short t (view n small) (H .least), held-long);
           name-long = H .name-long;
           que-long = long;
+          beyond = H .name-beyond;
           least = H .least;
           lined = rw queued (queue-lined t (view n small));
         }
@@ -78,13 +79,15 @@ module _ (n : ℕ) (name small block sizes prev dist head after before : List �
                 few = H .few;
                 name-long = S .name-long;
                 prev-long = A .linked .long;
+                name-beyond = S .name-beyond;
+                prev-beyond = A .linked .bare;
+                dist-beyond = λ i a b. A .linked .beyond i a b ∙ H .dist-beyond i a b;
                 least = rw (S .names) (next-least t (view m que));
                 flags = rw (S .names) (flags-of-parts t u small′ (omega (arith, next-length t (view m que), held-long, H .few)) (S .flags));
                 marks = S .marks;
                 sized = rw (S .names) (S .sized);
                 links = rw (S .names) (A .linked .links);
                 lists = L;
-                beyond = λ i a b. A .linked .beyond i a b ∙ H .beyond i a b;
               };
           scratch =
               record {

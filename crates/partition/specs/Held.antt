@@ -1,5 +1,5 @@
 -- What the arrays of a partition hold at a width: t is the table of its groups, the first n of its names.
-use Prim.Native.Nat.{ℕ, _≤_, _<_}
+use Prim.Native.Nat.{ℕ, _≤_}
 use mathlib.Core.Path.{_≡_}
 use mathlib.Core.List.{List}
 use lib.ListN.{length}
@@ -10,7 +10,7 @@ use Rattle.step_slots.specs.Slots.{view}
 use Rattle.step_distances.specs.Lists.{Lists}
 use Rattle.step_refine.specs.Refine.{queue, nextOf}
 use Rattle.step_refine.specs.Links.{Linked}
-use Rattle.step_refine.specs.Phases.{Clean, Sized, Parts, Tails, Rests, Left, FlagsOf, Flagged, Marked}
+use Rattle.step_refine.specs.Phases.{Bare, Clean, Sized, Parts, Tails, Rests, Left, FlagsOf, Flagged, Marked}
 use Rattle.step_relink.specs.Relink.{Relinked}
 
 -- names, flags, sizes, links and lists by distance agree, for a read of n bytes
@@ -18,13 +18,15 @@ pub record Held (n : ℕ) (name small block sizes prev dist head after before : 
   pub few : n ≤ 1000
   pub name-long : length name ≡ 1000
   pub prev-long : length prev ≡ 1000
+  pub name-beyond : Bare n name
+  pub prev-beyond : Bare n prev
+  pub dist-beyond : Bare n dist
   pub least : Least (view n name)
   pub flags : FlagsOf (view n name) small
   pub marks : Marked small block
   pub sized : Sized (view n name) sizes
   pub links : Linked (view n name) dist prev
   pub lists : Lists dist head after before
-  pub beyond : (i : ℕ) → n < i → i ≤ 1000 → at dist i ≡ 0
 
 -- the scratch of a step, as it is before and after each
 pub record Scratch (que part last tail rest best : List ℕ) : Type 0 where
@@ -47,6 +49,7 @@ pub record Apart (t Q : List ℕ) (n : ℕ) (old part tail rest sizes prev dist 
 pub record Settled (n : ℕ) (t Q name small block sizes part tail best : List ℕ) : Type 0 where
   pub name-long : length name ≡ 1000
   pub names : view n name ≡ nextOf t Q
+  pub name-beyond : Bare n name
   pub flags : Flagged (partsSmall t (nextOf t Q)) small
   pub marks : Marked small block
   pub sized : Sized (nextOf t Q) sizes

@@ -9,7 +9,7 @@ ghost use Rattle.step_slots.specs.Slots.{view};
 ghost use Rattle.step_distances.specs.Lists.{Lists};
 ghost use Rattle.step_refine.specs.Refine.{nextOf};
 ghost use Rattle.step_refine.specs.Links.{Linked};
-ghost use Rattle.step_refine.specs.Phases.{Ready, Clean, Sized, Parts, Tails, Rests, Left, Gaps};
+ghost use Rattle.step_refine.specs.Phases.{Bare, Ready, Clean, Sized, Parts, Tails, Rests, Left, Gaps, Marked};
 ghost use Rattle.partition.specs.Held.{Held, Scratch, Apart, Settled, Advanced};
 ghost use Rattle.partition.specs.Stand.{Good, Of, groups, smallOnes};
 use step_choose::choose_all;
@@ -62,7 +62,7 @@ pub fn take_apart(
     n: u16,
     m: u16,
 )
-    requires { ⌜ Ready (now name) (now que) n m × Clean (now part) × (length (now last) ≡ 1000) × Clean (now tail) × (length (now rest) ≡ 1000) × Sized (view n (now name)) (now size) × (length (now prev) ≡ 1000) × Linked (view n (now name)) (now dist) (now prev) × Lists (now dist) (now head) (now after) (now before) ⌝ }
+    requires { ⌜ Ready (now name) (now que) n m × Clean (now part) × (length (now last) ≡ 1000) × Clean (now tail) × (length (now rest) ≡ 1000) × Sized (view n (now name)) (now size) × (length (now prev) ≡ 1000) × Linked (view n (now name)) (now dist) (now prev) × Lists (now dist) (now head) (now after) (now before) × Bare n (now prev) ⌝ }
     ensures { λ r. ⌜ Apart (view n (now (name .entry))) (view m (now (que .entry))) n (now (dist .entry)) (now (part .exit)) (now (tail .exit)) (now (rest .exit)) (now (size .exit)) (now (prev .exit)) (now (dist .exit)) × (length (now (last .exit)) ≡ 1000) × Lists (now (dist .exit)) (now (head .exit)) (now (after .exit)) (now (before .exit)) ⌝ }
 {
     part_all(part, last, tail, size, name, que, n, m);
@@ -85,7 +85,7 @@ pub fn settle(
     n: u16,
     m: u16,
 )
-    requires { ⌜ Ready (now name) (now que) n m × Clean (now small) × (length (now block) ≡ 32) × Left (view n (now name)) (view m (now que)) (now size) × Parts (view n (now name)) (view m (now que)) (now part) × Tails (view n (now name)) (view m (now que)) (now tail) × (length (now best) ≡ 1000) × Rests (view n (now name)) (view m (now que)) (now rest) × Gaps (nextOf (view n (now name)) (view m (now que))) (now dist) ⌝ }
+    requires { ⌜ Ready (now name) (now que) n m × Clean (now small) × Marked (now small) (now block) × Left (view n (now name)) (view m (now que)) (now size) × Parts (view n (now name)) (view m (now que)) (now part) × Tails (view n (now name)) (view m (now que)) (now tail) × (length (now best) ≡ 1000) × Rests (view n (now name)) (view m (now que)) (now rest) × Gaps (nextOf (view n (now name)) (view m (now que))) (now dist) ⌝ }
     ensures { λ r. ⌜ Settled n (view n (now (name .entry))) (view m (now (que .entry))) (now (name .exit)) (now (small .exit)) (now (block .exit)) (now (size .exit)) (now (part .exit)) (now (tail .exit)) (now (best .exit)) ⌝ }
 {
     count_all(size, best, tail, name, part, rest, que, n, m);
@@ -190,7 +190,7 @@ impl Partition {
     // the partition at the next width; at width n, and for an empty read, as it was
     pub fn step(mut self) -> Stepped
         requires { ⌜ Good self ⌝ }
-        ensures { λ r. ⌜ Good (r .partition) × (r .partition .n ≡ self .n) × (r .partition .width ≡ stepWidth (self .width) (groups self)) × (groups (r .partition) ≡ stepTable (self .width) (groups self) (smallOnes self)) × (smallOnes (r .partition) ≡ stepSmalls (self .width) (groups self) (smallOnes self)) × (r .moves ≡ stepCount (self .width) (groups self) (smallOnes self)) ⌝ }
+        ensures { λ r. ⌜ Good (r .partition) × (r .partition .n ≡ self .n) × (r .partition .width ≡ stepWidth (self .width) (groups self)) × (groups (r .partition) ≡ stepTable (self .width) (groups self) (smallOnes self)) × (smallOnes (r .partition) ≡ stepSmalls (self .width) (groups self) (smallOnes self)) × (r .moves ≡ stepCount (self .width) (groups self) (smallOnes self)) × (self .n ≤ self .width → r .partition ≡ self) ⌝ }
     {
         let n = self.n;
         let w = self.width;

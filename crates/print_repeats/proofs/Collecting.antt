@@ -1,37 +1,31 @@
--- Where the next text goes, and what is collected once it stands there. Assumes nothing.
-use Prim.Native.Nat.{ℕ, _+_, _-_, _*_, _^_, _≤_, _<_}
-use mathlib.Core.Path.{_≡_, ap, _∙_}
-use mathlib.Core.List.{List, _++_, append-assoc}
+-- A text written to the rest of the buffer, from its place on, is collected behind what was there. Assumes nothing.
+use Prim.Native.Nat.{ℕ, _+_, _-_, _*_, _≤_}
+use mathlib.Core.Path.{_≡_, sym, ap, _∙_}
+use mathlib.Core.List.{List, [], _++_, append-assoc}
 use native.Mathlib.Omega.{arith}
 use lib.ListN.{length, length-append, length-drop, take, drop}
 use lib.Seq.{length-take-le, take-at}
+use Rattle.words.specs.Rows.{rows}
+use Rattle.words.specs.Lists.{lineSize}
 use Rattle.words.specs.Answers.{Answer}
 use Rattle.text_answers.specs.Texts.{answerText, Printable}
-use Rattle.text_streams.proofs.Keeping.{keeps-size}
+use Rattle.text_streams.specs.Outputs.{nextPlace, Adds}
+use Rattle.text_streams.specs.declared.Out.{Out}
 use Rattle.text_streams.proofs.Placing.{place-room}
-use Rattle.text_streams.specs.Lines.{Keeps}
-use Rattle.print_repeats.specs.Output.{printed, Spacious, textPlace, Heard, Collected}
+use Rattle.text_streams.proofs.Telling.{adds-text, adds-more}
+use Rattle.print_repeats.specs.Output.{printed, Spacious, Heard, Collected}
 
--- the slice has the same length after the call
-place-same : (list made buf : List ℕ) (used : ℕ) → length made ≡ length list → textPlace made buf used ≡ textPlace list buf used
-unfolding textPlace
-place-same list made buf used e = rw e
-
--- a text written to the rest of the buffer from its place on
-module _ {line : List ℕ} {len : ℕ} {list buf : List ℕ} {used : ℕ} {a : Answer} {made : List ℕ} (h : Heard line len list a made)
-    (ready : Spacious list buf used) (same : length made ≡ length list) {at : ℕ} (e : at ≡ textPlace made buf used) where
+module _ {line : List ℕ} {len : ℕ} {list buf : List ℕ} {s : Out} {a : Answer} {made : List ℕ} (h : Heard line len list a made)
+    (ready : Spacious list buf (s .used)) (same : length made ≡ length list) {o : Out}
+    (placed : (o .used ≡ nextPlace (6 * length made + 64) (length buf) (s .used)) × Adds buf s [] buf o) where
   abbrev rest : List ℕ
-  rest = take (length buf - at) (drop at buf)
+  rest = take (length buf - o .used) (drop (o .used) buf)
 
-  place-is : at ≡ textPlace list buf used
-  place-is = e ∙ place-same list made buf used same
+  pub place-inside : 6 * length list + 64 + o .used ≤ length buf
+  place-inside = rw (placed .0, same) (place-room (6 * length list + 64) (length buf) (s .used) (ready .room))
 
-  pub place-inside : 6 * length list + 64 + at ≤ length buf
-  unfolding textPlace
-  place-inside = rw place-is (place-room (6 * length list + 64) (length buf) used (ready .room))
-
-  rest-length : length rest ≡ length buf - at
-  rest-length = length-take-le (length buf - at) (drop at buf) (omega (arith, length-drop at buf))
+  rest-length : length rest ≡ length buf - o .used
+  rest-length = length-take-le (length buf - o .used) (drop (o .used) buf) (omega (arith, length-drop (o .used) buf))
 
   pub printable : Printable a made rest
   printable =
@@ -42,26 +36,31 @@ module _ {line : List ℕ} {len : ℕ} {list buf : List ℕ} {used : ℕ} {a : A
 
   module _ {after : List ℕ} {n : ℕ} (w : (after ≡ answerText a len made ++ drop n rest) × (n ≡ length (answerText a len made)))
       (whole : length after ≡ length rest) where
-    pub text-inside : at + n ≤ length buf
+    pub text-inside : o .used + n ≤ length buf
     text-inside =
         let l : length after ≡ n + length (drop n rest) = rw (w .0, length-append (answerText a len made) (drop n rest)) (omega (arith, w .1)) in
         omega (arith, rest-length, whole, place-inside)
 
-    text-is : (x : List ℕ) → Keeps x len line → length x < 2 ^ 64 → answerText a len made ≡ printed x list
-    unfolding printed
-    text-is x k b = let s = h .says x k b in rw (s .0, s .1, keeps-size k b)
-
-    front-length : length (take at buf ++ answerText a len made) ≡ at + n
+    front-length : length (take (o .used) buf ++ answerText a len made) ≡ o .used + n
     front-length =
-        rw (length-append (take at buf) (answerText a len made), length-take-le at buf (omega (arith, place-inside))) (omega (arith, w .1))
+        rw (length-append (take (o .used) buf) (answerText a len made), length-take-le (o .used) buf (omega (arith, place-inside))) (omega (arith, w .1))
 
-    pub collected : (more : List ℕ) → Collected line len list buf used (take at buf ++ (after ++ more)) (at + n)
+    text-there : (more : List ℕ) → take (o .used + n) (take (o .used) buf ++ (after ++ more)) ≡ take (o .used) buf ++ answerText a len made
+    text-there more =
+        let t : List ℕ = answerText a len made in
+        let r : List ℕ = drop n rest ++ more in
+        let g : take (o .used) buf ++ (after ++ more) ≡ take (o .used) buf ++ t ++ r = rw (w .0) (simp append-assoc) in
+        ap (take (o .used + n)) g ∙ take-at (take (o .used) buf ++ t) r (o .used + n) front-length
+
+    pub collected : (more : List ℕ) →
+        Collected line len list buf s (take (o .used) buf ++ (after ++ more)) (record { used = o .used + n; ok = o .ok })
     collected more =
         record {
           inside = text-inside;
-          text = λ x k b.
-              let t : List ℕ = answerText a len made in
-              let r : List ℕ = drop n rest ++ more in
-              let g : take at buf ++ (after ++ more) ≡ take at buf ++ t ++ r = rw (w .0) (simp append-assoc) in
-              ap (take (at + n)) g ∙ take-at (take at buf ++ t) r (at + n) front-length ∙ rw (text-is x k b, place-is);
+          adds = λ x k. rw (sym (h .text x k)) (adds-more (placed .1) (adds-text (text-there more)));
         }
+
+-- the slice of the list has the same room at every line
+pub same-room : (list made : List ℕ) → length list ≡ length made → printed (rows lineSize list) ≡ printed (rows lineSize made)
+unfolding rows
+same-room list made e = rw e

@@ -1,6 +1,32 @@
--- Two results that the contract of a call for C allows are equal: each is an equation with the inputs. Assumes nothing.
+-- Two results x and y at the arguments a, both allowed by the contract of the call as the source states it, are equal, and so is the lent slice
+-- afterwards, in e and f. Assumes nothing.
 use mathlib.Core.Path.{_≡_, sym, _∙_}
+use denote.Ref.{now}
+use Rattle.sorunggyeo.proofs.sorunggyeo_list.Reads as sorunggyeo-list
+use Rattle.sorunggyeo.proofs.sorunggyeo_group_table.Reads as sorunggyeo-group-table
+use Rattle.sorunggyeo.proofs.sorunggyeo_log.Reads as sorunggyeo-log
+use Rattle.sorunggyeo.proofs.sorunggyeo_replay.Reads as sorunggyeo-replay
+use Rattle.sorunggyeo.proofs.sorunggyeo_claim.Reads as sorunggyeo-claim
+use Rattle.sorunggyeo.proofs.sorunggyeo_motif.Reads as sorunggyeo-motif
+use Rattle.sorunggyeo.proofs.sorunggyeo_next.Reads as sorunggyeo-next
 
--- the contract of each call is this, for the answer and for the slice
-pub settled : {A : Type 0} {v a b : A} → a ≡ v → b ≡ v → a ≡ b
-settled p q = p ∙ sym q
+pub sorunggyeo-list-settled : (κs : _) (a : _) (x y : _) (e f : _) → sorunggyeo-list.Learnt κs a x e → sorunggyeo-list.Learnt κs a y f → (x ≡ y) × (now (e .1 .1 .0) ≡ now (f .1 .1 .0))
+sorunggyeo-list-settled κs a x y e f p q = (p .0 ∙ sym (q .0), p .1 ∙ sym (q .1))
+
+pub sorunggyeo-group-table-settled : (κs : _) (a : _) (x y : _) (e f : _) → sorunggyeo-group-table.Learnt κs a x e → sorunggyeo-group-table.Learnt κs a y f → (x ≡ y) × (now (e .1 .1 .0) ≡ now (f .1 .1 .0))
+sorunggyeo-group-table-settled κs a x y e f p q = (p .0 ∙ sym (q .0), p .1 ∙ sym (q .1))
+
+pub sorunggyeo-log-settled : (κs : _) (a : _) (x y : _) (e f : _) → sorunggyeo-log.Learnt κs a x e → sorunggyeo-log.Learnt κs a y f → (x ≡ y) × (now (e .1 .0) ≡ now (f .1 .0))
+sorunggyeo-log-settled κs a x y e f p q = (p .0 ∙ sym (q .0), p .1 ∙ sym (q .1))
+
+pub sorunggyeo-replay-settled : (κs : _) (a : _) (x y : _) (e f : _) → sorunggyeo-replay.Learnt κs a x e → sorunggyeo-replay.Learnt κs a y f → (x ≡ y) × (now (e .1 .1 .1 .0) ≡ now (f .1 .1 .1 .0))
+sorunggyeo-replay-settled κs a x y e f p q = (p .0 ∙ sym (q .0), p .1 ∙ sym (q .1))
+
+pub sorunggyeo-claim-settled : (κs : _) (a : _) (x y : _) (e f : _) → sorunggyeo-claim.Learnt κs a x e → sorunggyeo-claim.Learnt κs a y f → x ≡ y
+sorunggyeo-claim-settled κs a x y e f p q = p ∙ sym q
+
+pub sorunggyeo-motif-settled : (κs : _) (a : _) (x y : _) (e f : _) → sorunggyeo-motif.Learnt κs a x e → sorunggyeo-motif.Learnt κs a y f → x ≡ y
+sorunggyeo-motif-settled κs a x y e f p q = p ∙ sym q
+
+pub sorunggyeo-next-settled : (κs : _) (a : _) (x y : _) (e f : _) → sorunggyeo-next.Learnt κs a x e → sorunggyeo-next.Learnt κs a y f → x ≡ y
+sorunggyeo-next-settled κs a x y e f p q = p ∙ sym q

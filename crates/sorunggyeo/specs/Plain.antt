@@ -1,9 +1,11 @@
 -- What the motif and the log reader give as C has it: numbers side by side.
 use Prim.Native.Nat.{ℕ}
 use mathlib.Core.List.{List}
-use lib.ListN.{length}
+use lib.ListN.{length, getD}
+use lib.Dec.{ltb}
+use Rattle.words.specs.Range.{bit}
+use Rattle.words.specs.Answers.{Answer, entrySays}
 use Rattle.words.specs.Calls.{motif, motifFrom}
-use Rattle.words.specs.declared.Entry.{Entry}
 use Rattle.words.specs.declared.Taken.{Taken}
 use Rattle.sorunggyeo.specs.declared.Part.{Part}
 use Rattle.sorunggyeo.specs.declared.Move.{Move}
@@ -12,11 +14,17 @@ use Rattle.sorunggyeo.specs.declared.Move.{Move}
 unfoldable pub motifPart : List ℕ → ℕ → ℕ → ℕ → Part
 motifPart x i p e = record { from = motifFrom x i p e; count = length (motif x i p e) }
 
--- an entry of a log and the place to go on from; all 0 but the place where the log has ended
-unfoldable pub entryMove : Entry → ℕ → Move
-entryMove (Entry.Move w s j) k = record { at = k; found = 1; width = w; name = s; position = j }
-entryMove Entry.Ended k = record { at = k; found = 0; width = 0; name = 0; position = 0 }
+-- what the reader says of an entry, side by side, and the place to go on from; all 0 but the place where there is no value
+unfoldable pub entryMove : Answer → ℕ → Move
+entryMove a k =
+    record {
+      at = k;
+      found = bit (ltb 0 (length (a .values)));
+      width = getD (a .values) 0 0;
+      name = getD (a .values) 1 0;
+      position = getD (a .values) 2 0;
+    }
 
 -- what the log reader takes
 unfoldable pub plainMove : Taken → Move
-plainMove t = entryMove (t .entry) (t .at)
+plainMove t = entryMove (entrySays (t .entry)) (t .at)

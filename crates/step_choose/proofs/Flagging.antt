@@ -1,14 +1,13 @@
 -- The flags, turn by turn: a flag is only set at a small part, together with the mark of its block, and stays; at the end every small part has
 -- been looked at, since a group of which no part was looked at is whole. Assumes nothing.
-use Prim.Native.Nat.{ℕ, _+_, _-_, _/_, _≤_, _<_}
+use Prim.Native.Nat.{ℕ, _+_, _-_, _/_, _≤_}
 use mathlib.Core.Path.{_≡_, refl, sym, ap, _∙_}
 use mathlib.Core.Logic.{_⊎_, inl, inr, ⊎-elim, by-cases, _≢_}
 use mathlib.Core.Bool.{true, false, _&&_, not, cond}
 use mathlib.Core.List.{List}
 use native.Mathlib.Decide.{ℕ-discrete}
 use native.Mathlib.Omega.{arith}
-use lib.ListN.{length, set, getD, length-set}
-use lib.Seq.{getD-set-same, getD-set-other}
+use lib.ListN.{length, set}
 use lib.Dec.{ltb, eqb}
 use borrow.Author.Tests.{lt-ltb, ltb-true, eqb-true, eqb-false, eq-eqb, ne-eqb, not-true}
 use Rattle.words.specs.Range.{bit}
@@ -19,7 +18,8 @@ use Rattle.words.proofs.Small.{parts-small-at, parts-small-length}
 use Rattle.step_slots.specs.Slots.{put}
 use Rattle.step_slots.proofs.Laws.{put-length, put-same, put-other}
 use Rattle.step_refine.specs.Refine.{has, Lined, nextOf, stayer}
-use Rattle.step_refine.specs.Phases.{Clean, Parts, Rests, Big, Chosen, Flagged}
+use Rattle.step_refine.specs.Phases.{Clean, Parts, Rests, Big, Chosen, Flagged, Marked}
+use Rattle.step_refine.proofs.Marks.{marked-put}
 use Rattle.step_refine.proofs.Next.{next-length}
 use Rattle.step_refine.proofs.Moved.{next-name-kept, kept-same}
 use Rattle.step_counts.specs.Counts.{leftName}
@@ -55,10 +55,6 @@ module _ (s b : ℕ) where
             rw m (by-cases (ℕ-discrete r s) (λ q. rw q (put-same small s 1 p h)) (λ q. put-other small s 1 r p l q ∙ e))
         go (inr m) = rw m e
 
--- a mark stays
-mark-stays : (block : List ℕ) (i j : ℕ) → j < length block → (i ≢ j → getD block i 0 ≡ 1) → getD (set block j 1) i 0 ≡ 1
-mark-stays block i j l h = by-cases (ℕ-discrete i j) (λ e. rw e (getD-set-same block j 1 0 l)) (λ e. getD-set-other block j i 1 0 e ∙ h e)
-
 module _ (t Q : List ℕ) (L : Least t) (N : Lined t Q) where
   -- a part of the group k, or none, is looked at
   flag-flags : (small block : List ℕ) (k b s : ℕ) → Big t Q k b → s ≤ 1000 → (1 ≤ s → PartOf t Q k s) → Flags t Q small block → Flags t Q (flagOf small s b) (markOf block s b)
@@ -81,22 +77,18 @@ module _ (t Q : List ℕ) (L : Least t) (N : Lined t Q) where
                   part-small t Q k b s B p (minor-is s b m .1),
                 )))
                 (λ q. rw (put-other small s 1 r l a q) (F .only r a c));
-            marked = record {
-              long = length-set block ((s - 1) / 32) 1 ∙ F .marked .long;
-              held = λ r a c e. mark-stays block ((r - 1) / 32) ((s - 1) / 32) (omega (arith, F .marked .long))
-                  (λ q. F .marked .held r a c (sym (put-other small s 1 r l a (λ w. q (ap (λ (v : ℕ). (v - 1) / 32) w))) ∙ e));
-            };
+            marked = marked-put small block s (F .long) l h (F .marked);
           })
 
   -- ---- turn by turn
 
-  pub flag-start : {best small block : List ℕ} → Clean small → length block ≡ 32 → Flagging t Q best 0 small block
-  flag-start C l =
+  pub flag-start : {best small block : List ℕ} → Clean small → Marked small block → Flagging t Q best 0 small block
+  flag-start C M =
       record {
         flags = record {
           long = C .long;
           only = λ s a b. inl (C .none s a b);
-          marked = record { long = l; held = λ s a b e. absurd (omega (arith, C .none s a b)) };
+          marked = M;
         };
         moved = λ k i p ne. absurd (omega (arith, p .low, p .high));
         left = λ k i p m ne. absurd (omega (arith, p .low, p .high));

@@ -3,7 +3,6 @@
 // `flag_all` promises `Flagged` and `Marked`: 1 at the name of every part that is small, 0 elsewhere, and the block of each flag marked.
 ghost use mathlib.Core.Path.{_≡_};
 ghost use Prim.Native.Nat.{_≤_, _<_};
-ghost use lib.ListN.{length};
 ghost use Rattle.words.specs.Reads.{at};
 ghost use Rattle.words.specs.Groups.{partsSmall};
 ghost use Rattle.step_slots.specs.Slots.{view};
@@ -123,7 +122,7 @@ pub fn flag_all(
     n: u16,
     m: u16,
 )
-    requires { ⌜ Ready (now name) (now que) n m × Clean (now small) × (length (now block) ≡ 32) × Chosen (view n (now name)) (view m (now que)) (now best) × Parts (view n (now name)) (view m (now que)) (now part) × Rests (view n (now name)) (view m (now que)) (now rest) ⌝ }
+    requires { ⌜ Ready (now name) (now que) n m × Clean (now small) × Marked (now small) (now block) × Chosen (view n (now name)) (view m (now que)) (now best) × Parts (view n (now name)) (view m (now que)) (now part) × Rests (view n (now name)) (view m (now que)) (now rest) ⌝ }
     ensures { λ r. ⌜ Flagged (partsSmall (view n (now (name .entry))) (nextOf (view n (now (name .entry))) (view m (now (que .entry))))) (now (small .exit)) × Marked (now (small .exit)) (now (block .exit)) ⌝ }
 {
     let mut q: u16 = 0;

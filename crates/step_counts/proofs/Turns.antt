@@ -71,6 +71,7 @@ mid-start t Q sizes best tail A B C =
       tail-long = C .long;
       moved = λ s h. A .moved s h ∙ sym (arrived-none t Q s);
       kept = A .kept;
+      beyond = A .beyond;
       left = λ r a b. absurd (omega arith);
       cleared = λ k a b free. C .none k a b (λ i h e. let w = has-is Q i h in free (w .0) (w .1) (w .2) (ap (at t) (w .3) ∙ e));
     }
@@ -186,6 +187,8 @@ module _ (name que : List ℕ) (n m : ℕ) (R : Ready name que n m) where
           tail-long = put-length tail k 0 ∙ M .tail-long;
           moved = sizes-moved;
           kept = sizes-kept;
+          beyond = λ s x y.
+              put-other sizes c (at sizes c + 1) s (mid-countable .part-low) (omega arith) (omega (arith, has-inside Q t (R .lined) c c-moves .1)) ∙ M .beyond s x y;
           left = best-left;
           cleared = tail-cleared;
         })
@@ -197,6 +200,7 @@ module _ (name que : List ℕ) (n m : ℕ) (R : Ready name que n m) where
     record {
       long = M .size-long;
       held = λ s x y. ⊎-elim (λ h. M .moved s h ∙ rw all-done (arrived-all t Q (R .least) (R .lined) s h)) (M .kept s x (rw (next-length t Q) at y)) (either (has Q s));
+      beyond = λ s x y. M .beyond s (rw (next-length t Q) at x) y;
     },
     record { long = M .best-long; held = λ i h. let w = has-is Q i h in rw (w .3) at (M .left (w .0) (w .1) (omega (arith, w .2, all-done))) },
     record { long = M .tail-long; none = λ k x y. M .cleared k x y (λ r u v. absurd (omega (arith, all-done))) },

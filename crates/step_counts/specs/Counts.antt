@@ -11,6 +11,7 @@ use Rattle.words.specs.Reads.{at}
 use Rattle.words.specs.Groups.{size}
 use Rattle.step_slots.specs.Slots.{put}
 use Rattle.step_refine.specs.Refine.{has, nextOf, stayer}
+use Rattle.step_refine.specs.Phases.{Bare}
 
 -- the name of what is left of the group k: k itself, or the rest of k if the position k moves
 unfoldable pub leftName : List ℕ → List ℕ → ℕ → ℕ
@@ -44,5 +45,6 @@ pub record CountedTo (t Q : List ℕ) (q : ℕ) (sizes best tail : List ℕ) : T
   pub tail-long : length tail ≡ 1000
   pub moved : (s : ℕ) → has Q s ≡ true → at sizes s ≡ arrived t Q q s
   pub kept : (s : ℕ) → 1 ≤ s → s ≤ length t → has Q s ≡ false → at sizes s ≡ size (nextOf t Q) s
+  pub beyond : Bare (length t) sizes
   pub left : (r : ℕ) → 1 ≤ r → r ≤ q → at best (at t (at Q r)) ≡ stayer t Q (at t (at Q r))
   pub cleared : (k : ℕ) → 1 ≤ k → k ≤ 1000 → ((r : ℕ) → q < r → r ≤ length Q → at t (at Q r) ≢ k) → at tail k ≡ 0

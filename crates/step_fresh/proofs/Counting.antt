@@ -6,8 +6,7 @@ use mathlib.Core.Logic.{by-cases, _≢_}
 use mathlib.Core.List.{List}
 use native.Mathlib.Omega.{arith}
 use native.Mathlib.Decide.{ℕ-discrete}
-use lib.ListN.{length, set, length-set}
-use lib.Seq.{getD-set-same, getD-set-other}
+use lib.ListN.{length, set}
 use lib.Dec.{ltb, eqb}
 use borrow.Author.Tests.{ltb-true, lt-ltb, eq-eqb, ne-eqb}
 use Rattle.words.specs.Range.{bit, count, sum}
@@ -19,6 +18,7 @@ use Rattle.words.proofs.Small.{all-small-at, all-small-length}
 use Rattle.step_slots.specs.Slots.{put, view}
 use Rattle.step_slots.proofs.Laws.{put-length, put-same, put-other, view-length, view-at}
 use Rattle.step_refine.specs.Phases.{Clean, Sized, Flagged, Marked}
+use Rattle.step_refine.proofs.Marks.{marked-put}
 use Rattle.step_refine.proofs.Moved.{size-nameless}
 use Rattle.step_fresh.specs.Counts.{sizeTo, CountedTo}
 
@@ -52,14 +52,14 @@ module _ (t : List ℕ) where
     size-beyond s l = count-none (λ j. eqb (at t j) s) (length t) 1 (λ k c d. ne-eqb (at t k) s (λ e. omega (arith, L .high k c (omega arith))))
 
 -- no position is counted
-pub counted-start : (t sizes small block : List ℕ) → Clean sizes → Clean small → length block ≡ 32 → CountedTo t sizes small block 0
-counted-start t sizes small block S F long =
+pub counted-start : (t sizes small block : List ℕ) → Clean sizes → Clean small → Marked small block → CountedTo t sizes small block 0
+counted-start t sizes small block S F M =
     record {
       size-long = S .long;
       small-long = F .long;
       counted = λ s a b. S .none s a b ∙ sym (size-to-none t s);
       flagged = λ s a b. rw (size-to-none t s) (F .none s a b);
-      marked = record { long = long; held = λ s a b e. absurd (omega (arith, F .none s a b)) };
+      marked = M;
     }
 
 -- no size is above the number of positions counted
@@ -74,15 +74,6 @@ module _ (t sizes small block : List ℕ) (i s : ℕ) (named : at t (i + 1) ≡ 
   size-to-other : (k : ℕ) → k ≢ s → sizeTo t (i + 1) k ≡ sizeTo t i k
   size-to-other k ne = omega (arith, size-to-more t i k, ap bit (ne-eqb (at t (i + 1)) k (λ e. ne (sym e ∙ named))))
 
-  marked-step : Marked (put small s 1) (set block ((s - 1) / 32) 1)
-  marked-step =
-      record {
-        long = length-set block ((s - 1) / 32) 1 ∙ C .marked .long;
-        held = λ k a b e. by-cases (ℕ-discrete ((k - 1) / 32) ((s - 1) / 32))
-            (λ q. rw q (getD-set-same block ((s - 1) / 32) 1 0 (omega (arith, C .marked .long))))
-            (λ ne. getD-set-other block ((s - 1) / 32) ((k - 1) / 32) 1 0 ne ∙ C .marked .held k a b (sym (put-other small s 1 k low a (λ q. ne (ap (λ (v : ℕ). (v - 1) / 32) q))) ∙ e));
-      }
-
   pub counted-step : CountedTo t (put sizes s (at sizes s + 1)) (put small s 1) (set block ((s - 1) / 32) 1) (i + 1)
   counted-step =
       record {
@@ -94,7 +85,7 @@ module _ (t sizes small block : List ℕ) (i s : ℕ) (named : at t (i + 1) ≡ 
         flagged = λ k a b. by-cases (ℕ-discrete k s)
             (λ q. rw (q, put-same small s 1 low (omega (arith, C .small-long)), size-to-same) (sym (ap bit (lt-ltb 0 (sizeTo t i s + 1) (omega arith)))))
             (λ ne. rw (size-to-other k ne) (put-other small s 1 k low a ne ∙ C .flagged k a b));
-        marked = marked-step;
+        marked = marked-put small block s (C .small-long) low high (C .marked);
       }
 
 -- the name s of the next position is a place
@@ -110,8 +101,13 @@ module _ (t sizes small block : List ℕ) (n : ℕ) (long : length t ≡ n) (few
   unfolding sizeTo size
   size-to-all s = rw long
 
-  pub counted-sized : Sized t sizes
-  counted-sized = record { long = C .size-long; held = λ k a b. C .counted k a (omega arith) ∙ size-to-all k }
+  pub counted-sized : Least t → Sized t sizes
+  counted-sized L =
+      record {
+        long = C .size-long;
+        held = λ k a b. C .counted k a (omega arith) ∙ size-to-all k;
+        beyond = λ k a b. C .counted k (omega arith) b ∙ size-to-all k ∙ size-beyond t L k a;
+      }
 
   pub counted-flagged : Least t → Flagged (allSmall t) small
   counted-flagged L =

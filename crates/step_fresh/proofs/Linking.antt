@@ -15,7 +15,7 @@ use Rattle.words.proofs.Groups.{table-length, table-least}
 use Rattle.step_slots.specs.Slots.{put, view}
 use Rattle.step_slots.proofs.Laws.{put-length, put-same, put-other, view-length, view-at}
 use Rattle.step_refine.specs.Links.{back, Linked}
-use Rattle.step_refine.specs.Phases.{Clean}
+use Rattle.step_refine.specs.Phases.{Kept, Clean}
 use Rattle.step_refine.proofs.Links.{gap-nearest, before-back}
 use Rattle.step_fresh.specs.Letters.{nameAfter, reachFrom, Latest, LinkedTo}
 use Rattle.step_fresh.proofs.Stores.{name-after-some, name-after-none, reach-from-some, reach-from-length, reach-from-other}
@@ -44,6 +44,10 @@ zeros-at : (m k : ℕ) → getD (replicate {A = ℕ} m 0) k 0 ≡ 0
 zeros-at zero k = refl
 zeros-at (suc m) zero = refl
 zeros-at (suc m) (suc k) = zeros-at m k
+
+-- a store within the first n places
+pub kept-put : (n : ℕ) (a b : List ℕ) (i v : ℕ) → 1 ≤ i → i ≤ n → Kept n a b → Kept n a (put b i v)
+kept-put n a b i v low high K j l m = put-other b i v j low (omega arith) (omega arith) ∙ K j l m
 
 -- no position is done
 pub linked-start : (x name prev dist : List ℕ) → length name ≡ 1000 → length prev ≡ 1000 → Clean dist → length x ≤ 1000 → LinkedTo x name prev dist (replicate 256 0) 0

@@ -1,13 +1,13 @@
 // The groups of width 1 of a read: two positions share a group if they have the same byte. `link_letters` gives the names and the links,
 // `count_letters` gives the sizes of the groups and flags every group as small. Both go once over the positions, from the left.
 ghost use mathlib.Core.Path.{_≡_};
-ghost use Prim.Native.Nat.{ℕ, _+_, _-_, _/_, _≤_, _<_};
+ghost use Prim.Native.Nat.{_+_, _-_, _/_, _≤_, _<_};
 ghost use lib.ListN.{length, getD, set};
 ghost use Rattle.words.specs.Reads.{at};
 ghost use Rattle.words.specs.Groups.{Least, table, allSmall};
 ghost use Rattle.step_slots.specs.Slots.{put, view};
 ghost use Rattle.step_refine.specs.Links.{Linked};
-ghost use Rattle.step_refine.specs.Phases.{Clean, Sized, Flagged, Marked};
+ghost use Rattle.step_refine.specs.Phases.{Bare, Kept, Clean, Sized, Flagged, Marked};
 ghost use Rattle.step_fresh.specs.Letters.{nameAfter, reachFrom};
 use step_slots::load;
 use step_slots::store;
@@ -75,7 +75,7 @@ pub fn link_letters(
     requires { ⌜ (n ≤ 1000) × (length (now read) ≡ n) × (length (now name) ≡ 1000) × (length (now prev) ≡ 1000) × Clean (now dist) ⌝ }
     ensures { λ r. ⌜ (length (now (name .exit)) ≡ 1000) × (length (now (prev .exit)) ≡ 1000) × (length (now (dist .exit)) ≡ 1000)
         × (view n (now (name .exit)) ≡ table (now (read .entry)) 1) × Linked (table (now (read .entry)) 1) (now (dist .exit)) (now (prev .exit))
-        × ((i : ℕ) → n < i → i ≤ 1000 → at (now (dist .exit)) i ≡ 0) ⌝ }
+        × Bare n (now (dist .exit)) × Kept n (now (name .entry)) (now (name .exit)) × Kept n (now (prev .entry)) (now (prev .exit)) ⌝ }
 {
     let mut seen = [0u16; 256];
     let mut i: u16 = 0;
@@ -108,7 +108,7 @@ pub fn count_letters(
     name: &[u16; 1000],
     n: u16,
 )
-    requires { ⌜ (n ≤ 1000) × (length (now name) ≡ 1000) × Least (view n (now name)) × Clean (now size) × Clean (now small) × (length (now block) ≡ 32) ⌝ }
+    requires { ⌜ (n ≤ 1000) × (length (now name) ≡ 1000) × Least (view n (now name)) × Clean (now size) × Clean (now small) × Marked (now small) (now block) ⌝ }
     ensures { λ r. ⌜ Sized (view n (now (name .entry))) (now (size .exit)) × Flagged (allSmall (view n (now (name .entry)))) (now (small .exit)) × Marked (now (small .exit)) (now (block .exit)) ⌝ }
 {
     let mut i: u16 = 0;

@@ -63,6 +63,7 @@ module _ (t Q part last tail sizes : List ℕ) where
         blank = λ i a b h. P .none i a b;
         tails = λ k a b. record { place = 0; within = omega arith; free = λ r c d. absurd (omega arith); none = λ e. T .none k a b; some = λ c. absurd (omega arith) };
         left = λ k a b. omega (arith, moved-none t Q k, S .held k a b);
+        beyond = S .beyond;
       }
 
   mid-last : Lined t Q → PartedTo t Q (length Q) part last tail sizes → Parts t Q part × Lasts t Q last × Tails t Q tail × Stayed t Q sizes
@@ -81,7 +82,7 @@ module _ (t Q part last tail sizes : List ℕ) where
           (λ l. T .none (omega arith))
           (lt-or-ge 0 (T .place));
     },
-    record { long = M .sizes-long; held = λ k a b. omega (arith, M .left k a b, moved-all t Q k N) },
+    record { long = M .sizes-long; held = λ k a b. omega (arith, M .left k a b, moved-all t Q k N); beyond = M .beyond },
   )
 
 -- ---- one turn
@@ -215,6 +216,7 @@ module _ (name t Q part last tail sizes : List ℕ) (few : length t ≤ 1000) (a
             (put-other part i (partOf part w i) j i-low a (λ e. h (suc q) (omega arith) (omega arith) (sym e)) ∙ M .blank j a l (λ r c d. h r c (omega arith)));
         tails = tails-next tail′ tails′;
         left = left-next sizes′ sizes″;
+        beyond = λ j a l. rw sizes″ (put-other sizes k (at sizes k - 1) j k-low (omega arith) (omega (arith, k-high, i-high)) ∙ M .beyond j a l);
       }
 
 -- ---- for the code

@@ -12,6 +12,7 @@ use Rattle.words.specs.Groups.{size}
 use Rattle.step_slots.specs.Slots.{put}
 use Rattle.step_refine.specs.Refine.{nextOf}
 use Rattle.step_refine.specs.Links.{back}
+use Rattle.step_refine.specs.Phases.{Bare}
 
 -- ---- one turn
 
@@ -68,3 +69,4 @@ pub record PartedTo (t Q : List ℕ) (q : ℕ) (part last tail sizes : List ℕ)
   pub blank : (i : ℕ) → 1 ≤ i → i ≤ 1000 → ((r : ℕ) → 1 ≤ r → r ≤ q → at Q r ≢ i) → at part i ≡ 0
   pub tails : (k : ℕ) → 1 ≤ k → k ≤ 1000 → Tail t Q q k (at tail k)
   pub left : (k : ℕ) → 1 ≤ k → k ≤ length t → at sizes k + moved t Q k q ≡ size t k
+  pub beyond : Bare (length t) sizes

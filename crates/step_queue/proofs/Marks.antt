@@ -1,14 +1,15 @@
 -- The marks of the blocks: a block that is not marked has no flag, and the marks of the others stay true. Assumes nothing.
 use Prim.Native.Nat.{ℕ, _+_, _-_, _*_, _/_, _≤_, _<_}
 use mathlib.Core.Path.{_≡_, sym, ap, _∙_}
-use mathlib.Core.Logic.{_⊎_, inl, inr, _≢_}
+use mathlib.Core.Logic.{_⊎_, inl, inr, ⊎-elim, by-cases, _≢_}
 use mathlib.Core.List.{List}
+use native.Mathlib.Decide.{ℕ-discrete}
 use native.Mathlib.Omega.{arith}
 use lib.ListN.{getD, set, length-set}
-use lib.Seq.{getD-set-other}
+use lib.Seq.{getD-set-same, getD-set-other}
 use Rattle.words.specs.Reads.{at}
 use Rattle.words.proofs.Tests.{lt-or-ge}
-use Rattle.step_refine.specs.Phases.{FlagsOf, Marked}
+use Rattle.step_refine.specs.Phases.{FlagsOf, Mark, Marked}
 use Rattle.step_queue.specs.Filling.{four, Cleared}
 use Rattle.step_queue.proofs.Gives.{flag-none}
 use Rattle.step_queue.proofs.Fours.{four-none}
@@ -26,8 +27,21 @@ module _ (f block : List ℕ) (b : ℕ) (M : Marked f block) where
       flag-none t f F s (omega arith) u (λ o. ne (ap (λ (i : ℕ). getD block i 0) (sym (mark-block s b l h)) ∙ M .held s (omega arith) u o))
 
   pub marked-after : (g : List ℕ) → Cleared f g (32 * b + 1) (32 * b + 33) → Marked g (set block b 0)
-  marked-after g C = record { long = length-set block b 0 ∙ M .long; held = held }
+  marked-after g C = record { long = length-set block b 0 ∙ M .long; held = held; only = only }
     where
+      -- a flag in another block stays
+      other-flag : (s : ℕ) → 1 ≤ s → (s - 1) / 32 ≢ b → at g s ≡ at f s
+      other-flag s a ne =
+          ⊎-elim (λ l. C .below s a l) (λ l. ⊎-elim (λ m. absurd (ne (mark-block s b l m))) (λ m. C .above s m) (lt-or-ge s (32 * b + 33))) (lt-or-ge s (32 * b + 1))
+
+      only : (c : ℕ) → c < 32 → (getD (set block b 0) c 0 ≡ 0) ⊎ Mark g c
+      only c h =
+          by-cases (ℕ-discrete c b) (λ e. inl (rw e (getD-set-same block b 0 0 (omega (arith, M .long)))))
+          (λ ne. ⊎-elim
+          (λ z. inl (getD-set-other block b c 0 0 ne ∙ z))
+          (λ m. inr (record { name = m .name; low = m .low; high = m .high; flag = other-flag (m .name) (m .low) (λ q. ne (sym (m .of) ∙ q)) ∙ m .flag; of = m .of }))
+          (M .only c h))
+
       held : (s : ℕ) → 1 ≤ s → s ≤ 1000 → at g s ≡ 1 → getD (set block b 0) ((s - 1) / 32) 0 ≡ 1
       held s a u e = go (lt-or-ge s (32 * b + 1)) (lt-or-ge s (32 * b + 33))
         where

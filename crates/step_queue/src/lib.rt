@@ -238,7 +238,7 @@ pub fn push_all(
     n: u16,
 ) -> u16
     requires { ⌜ (n ≤ 1000) × (length (now name) ≡ 1000) × (length (now que) ≡ 1000) × Least (view n (now name)) × Gaps (view n (now name)) (now dist) × FlagsOf (view n (now name)) (now small) × Marked (now small) (now block) ⌝ }
-    ensures { λ r. ⌜ (length (now (que .exit)) ≡ 1000) × (view r (now (que .exit)) ≡ queue (view n (now (name .entry))) (view n (now (small .entry)))) × (r ≡ length (queue (view n (now (name .entry))) (view n (now (small .entry))))) × Clean (now (small .exit)) × (length (now (block .exit)) ≡ 32) ⌝ }
+    ensures { λ r. ⌜ (length (now (que .exit)) ≡ 1000) × (view r (now (que .exit)) ≡ queue (view n (now (name .entry))) (view n (now (small .entry)))) × (r ≡ length (queue (view n (now (name .entry))) (view n (now (small .entry))))) × Clean (now (small .exit)) × Marked (now (small .exit)) (now (block .exit)) ⌝ }
 {
     let mut k: u16 = 0;
     let mut q: u16 = 0;

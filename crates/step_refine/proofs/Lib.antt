@@ -8,3 +8,4 @@ pub mod Queue
 pub mod QueueMoves
 pub mod Lengths
 pub mod Steps
+pub mod Marks

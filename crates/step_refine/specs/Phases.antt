@@ -12,12 +12,21 @@ use Rattle.step_slots.specs.Slots.{view}
 use Rattle.step_refine.specs.Refine.{has, Lined, nextOf, stayer, stayers}
 use Rattle.step_refine.specs.Links.{back}
 
+-- nothing stands beyond the first n places of an array
+abbrev pub Bare : ℕ → List ℕ → Type 0
+Bare n a = (i : ℕ) → n < i → i ≤ 1000 → at a i ≡ 0
+
+-- beyond the first n places an array b is as a was
+abbrev pub Kept : ℕ → List ℕ → List ℕ → Type 0
+Kept n a b = (i : ℕ) → n < i → i ≤ 1000 → at b i ≡ at a i
+
 -- the names before the step and the queue, which every phase reads
 pub record Ready (name que : List ℕ) (n m : ℕ) : Type 0 where
   pub few : n ≤ 1000
   pub queued : m ≤ n
   pub name-long : length name ≡ 1000
   pub que-long : length que ≡ 1000
+  pub beyond : Bare n name
   pub least : Least (view n name)
   pub lined : Lined (view n name) (view m que)
 
@@ -35,6 +44,7 @@ pub record Gaps (t dist : List ℕ) : Type 0 where
 pub record Sized (t sizes : List ℕ) : Type 0 where
   pub long : length sizes ≡ 1000
   pub held : (k : ℕ) → 1 ≤ k → k ≤ length t → at sizes k ≡ size t k
+  pub beyond : Bare (length t) sizes
 
 -- the new name of each position that moves, and 0 for each other
 pub record Parts (t Q part : List ℕ) : Type 0 where
@@ -51,6 +61,7 @@ pub record Lasts (t Q last : List ℕ) : Type 0 where
 pub record Stayed (t Q sizes : List ℕ) : Type 0 where
   pub long : length sizes ≡ 1000
   pub held : (k : ℕ) → 1 ≤ k → k ≤ length t → at sizes k ≡ stayers t Q k
+  pub beyond : Bare (length t) sizes
 
 -- a group from which nothing moves has no tail
 pub record Tails (t Q tail : List ℕ) : Type 0 where
@@ -67,6 +78,7 @@ pub record Left (t Q sizes : List ℕ) : Type 0 where
   pub long : length sizes ≡ 1000
   pub moved : (k : ℕ) → has Q k ≡ true → at sizes k ≡ 0
   pub kept : (k : ℕ) → 1 ≤ k → k ≤ length t → has Q k ≡ false → at sizes k ≡ size (nextOf t Q) k
+  pub beyond : Bare (length t) sizes
 
 -- what is left of each group that lost a position, at its old name
 pub record Bests (t Q best : List ℕ) : Type 0 where
@@ -97,13 +109,23 @@ pub record FlagsOf (t small : List ℕ) : Type 0 where
   pub long : length small ≡ 1000
   pub flag : (s : ℕ) → 1 ≤ s → s ≤ 1000 → (at small s ≡ 0) ⊎ ((at small s ≡ 1) × (s ≤ length t) × (at t s ≡ s))
 
--- the block of 32 names of each small group is marked
+-- a small group whose name is in the block b
+pub record Mark (small : List ℕ) (b : ℕ) : Type 0 where
+  pub name : ℕ
+  pub low : 1 ≤ name
+  pub high : name ≤ 1000
+  pub flag : at small name ≡ 1
+  pub of : (name - 1) / 32 ≡ b
+
+-- the block of 32 names of each small group is marked, and no other
 pub record Marked (small block : List ℕ) : Type 0 where
   pub long : length block ≡ 32
   pub held : (s : ℕ) → 1 ≤ s → s ≤ 1000 → at small s ≡ 1 → getD block ((s - 1) / 32) 0 ≡ 1
+  pub only : (b : ℕ) → b < 32 → (getD block b 0 ≡ 0) ⊎ Mark small b
 
 -- the old names of the positions that move, and the new names of those that stay
 pub record Renewed (t Q name : List ℕ) : Type 0 where
   pub long : length name ≡ 1000
   pub moved : (i : ℕ) → has Q i ≡ true → at name i ≡ at t i
   pub kept : (i : ℕ) → 1 ≤ i → i ≤ length t → has Q i ≡ false → at name i ≡ at (nextOf t Q) i
+  pub beyond : Bare (length t) name

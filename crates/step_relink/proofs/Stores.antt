@@ -1,6 +1,6 @@
 -- What is read after the stores of one relinking. Assumes nothing.
 use Prim.Native.Nat.{ℕ, _+_, _≤_, _<_}
-use mathlib.Core.Path.{_≡_}
+use mathlib.Core.Path.{_≡_, _∙_}
 use mathlib.Core.Logic.{⊎-elim, _≢_}
 use mathlib.Core.List.{List}
 use native.Mathlib.Omega.{arith}
@@ -10,7 +10,7 @@ use Rattle.words.specs.Reads.{at}
 use Rattle.words.proofs.Tests.{lt-or-ge}
 use Rattle.step_slots.specs.Slots.{put}
 use Rattle.step_slots.proofs.Laws.{put-length, put-same, put-other}
-use Rattle.step_relink.specs.Relink.{putAhead, joined}
+use Rattle.step_relink.specs.Relink.{putAhead, prevAfter, joined}
 
 module _ (a : List ℕ) (i d v : ℕ) where
   pub ahead-is : 1 ≤ d → putAhead a i d v ≡ put a (i + d) v
@@ -29,6 +29,12 @@ module _ (a : List ℕ) (i d v : ℕ) where
 
   pub ahead-other : (k : ℕ) → 1 ≤ k → (1 ≤ d → k ≢ i + d) → at (putAhead a i d v) k ≡ at a k
   ahead-other k h ne = ⊎-elim (λ l. rw (ahead-is l) (put-other a (i + d) v k (omega arith) h (ne l))) (λ l. rw (ahead-none (omega arith))) (lt-or-ge 0 d)
+
+-- no place beyond n is written where i and the position ahead of it are within
+pub prev-past : (dist prev : List ℕ) (i t n j : ℕ) → 1 ≤ i → i ≤ n → i + at dist i ≤ n → n < j → at (prevAfter dist prev i t) j ≡ at prev j
+unfolding prevAfter
+prev-past dist prev i t n j low high ahead past =
+    put-other (putAhead prev i (at dist i) (at prev i)) i t j low (omega arith) (omega arith) ∙ ahead-other prev i (at dist i) (at prev i) j (omega arith) (λ h. omega arith)
 
 pub joined-some : (e d : ℕ) → 1 ≤ d → joined e d ≡ e + d
 unfolding joined

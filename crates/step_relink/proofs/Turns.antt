@@ -12,10 +12,11 @@ use Rattle.step_slots.specs.Slots.{view, put}
 use Rattle.step_slots.proofs.Laws.{view-length, view-at, put-other, some-other}
 use Rattle.step_refine.specs.Refine.{nextOf}
 use Rattle.step_refine.specs.Links.{back, Linked}
-use Rattle.step_refine.specs.Phases.{Ready, Lasts}
+use Rattle.step_refine.specs.Phases.{Bare, Ready, Lasts}
 use Rattle.step_refine.proofs.Queues.{is-has}
 use Rattle.step_refine.proofs.Links.{Nearest, Before, gap-nearest, back-before}
 use Rattle.step_relink.specs.Relink.{joined, bridged, distAfter, prevAfter, Relinkable, Place, codes, RelinkedTo, Relinked}
+use Rattle.step_relink.proofs.Stores.{prev-past}
 use Rattle.step_relink.proofs.OneMove.{linked-move, prev-long}
 use Rattle.step_relink.proofs.Codes.{codes-length, codes-place, codes-linked}
 
@@ -64,9 +65,9 @@ module _ (name que last : List ℕ) (n m : ℕ) (R : Ready name que n m) (S : La
   few : length t ≤ 1000
   few = omega (arith, t-long, R .few)
 
-  pub mid-start : (dist prev : List ℕ) → length prev ≡ 1000 → Linked t dist prev → RelinkedTo t Q dist dist prev n m 0
+  pub mid-start : (dist prev : List ℕ) → length prev ≡ 1000 → Linked t dist prev → Bare n prev → RelinkedTo t Q dist dist prev n m 0
   unfolding codes
-  mid-start dist prev l L = record { done = omega arith; long = l; links = L; beyond = λ i a b. refl }
+  mid-start dist prev l L B = record { done = omega arith; long = l; links = L; bare = B; beyond = λ i a b. refl }
 
   module _ (q : ℕ) (h : q < m) where
     -- the next place of the queue, and what is read there
@@ -102,6 +103,7 @@ module _ (name que last : List ℕ) (n m : ℕ) (R : Ready name que n m) (S : La
           done = h;
           long = prev-long (codes t u Q q) i x b place-next dist prev (M .links) l (M .long) codes-few;
           links = rw (← que-next) (linked-move (codes t u Q q) i x b place-next dist prev (M .links) l (M .long) codes-few);
+          bare = λ j c d. prev-past dist prev i b n j (A .low) (omega (arith, que-inside .1)) ahead-inside c ∙ M .bare j c d;
           beyond = λ j c d. far j c ∙ M .beyond j c d;
         }
       where
@@ -131,10 +133,16 @@ module _ (name que last : List ℕ) (n m : ℕ) (R : Ready name que n m) (S : La
             ∙ some-other dist (at prev i) (joined (at dist (at prev i)) (at dist i)) j (omega arith) (omega (arith, back-inside))
             )
 
+        ahead-inside : i + at dist i ≤ n
+        ahead-inside =
+            let d : at dist i ≡ gap (codes t u Q q) i = M .links .next i (place-next .low) (place-next .high) in
+            omega (arith, d, gap-nearest (codes t u Q q) i (place-next .high) .high, codes-length t Q (R .least) (R .lined) few q, t-long)
+
   pub mid-end : (old dist prev : List ℕ) (q : ℕ) → m ≤ q → RelinkedTo t Q old dist prev n m q → Relinked u old dist prev n
   mid-end old dist prev q h M =
       record {
         long = M .long;
         links = codes-linked t Q (R .least) (R .lined) few dist prev (subst (λ (v : ℕ). Linked (codes t u Q v) dist prev) (omega (arith, M .done, Q-long)) (M .links));
+        bare = M .bare;
         beyond = M .beyond;
       }

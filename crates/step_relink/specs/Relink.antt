@@ -11,6 +11,7 @@ use Rattle.words.specs.Reads.{at}
 use Rattle.step_slots.specs.Slots.{put, putSome}
 use Rattle.step_refine.specs.Refine.{nextOf}
 use Rattle.step_refine.specs.Links.{Linked}
+use Rattle.step_refine.specs.Phases.{Bare, Kept}
 
 -- the distance over a position that is taken out: e before it, d after it
 unfoldable pub joined : ℕ → ℕ → ℕ
@@ -60,10 +61,12 @@ pub record RelinkedTo (t Q old dist prev : List ℕ) (n m q : ℕ) : Type 0 wher
   pub done : q ≤ m
   pub long : length prev ≡ 1000
   pub links : Linked (codes t (nextOf t Q) Q q) dist prev
-  pub beyond : (i : ℕ) → n < i → i ≤ 1000 → at dist i ≡ at old i
+  pub bare : Bare n prev
+  pub beyond : Kept n old dist
 
 -- the links of the table u, where nothing changed beyond its n positions
 pub record Relinked (u old dist prev : List ℕ) (n : ℕ) : Type 0 where
   pub long : length prev ≡ 1000
   pub links : Linked u dist prev
-  pub beyond : (i : ℕ) → n < i → i ≤ 1000 → at dist i ≡ at old i
+  pub bare : Bare n prev
+  pub beyond : Kept n old dist

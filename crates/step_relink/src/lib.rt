@@ -8,7 +8,7 @@ ghost use Rattle.step_slots.specs.Slots.{putSome, view};
 ghost use Rattle.step_distances.specs.Lists.{Lists};
 ghost use Rattle.step_refine.specs.Refine.{nextOf};
 ghost use Rattle.step_refine.specs.Links.{Linked};
-ghost use Rattle.step_refine.specs.Phases.{Ready, Lasts};
+ghost use Rattle.step_refine.specs.Phases.{Bare, Ready, Lasts};
 ghost use Rattle.step_relink.specs.Relink.{putAhead, joined, distAfter, prevAfter, Relinkable, Relinked};
 use step_distances::change;
 use step_slots::load;
@@ -104,7 +104,7 @@ pub fn relink_all(
     n: u16,
     m: u16,
 )
-    requires { ⌜ Ready (now name) (now que) n m × (length (now prev) ≡ 1000) × Linked (view n (now name)) (now dist) (now prev) × Lists (now dist) (now head) (now after) (now before) × Lasts (view n (now name)) (view m (now que)) (now last) ⌝ }
+    requires { ⌜ Ready (now name) (now que) n m × (length (now prev) ≡ 1000) × Linked (view n (now name)) (now dist) (now prev) × Lists (now dist) (now head) (now after) (now before) × Lasts (view n (now name)) (view m (now que)) (now last) × Bare n (now prev) ⌝ }
     ensures { λ r. ⌜ Relinked (nextOf (view n (now (name .entry))) (view m (now (que .entry)))) (now (dist .entry)) (now (dist .exit)) (now (prev .exit)) n × Lists (now (dist .exit)) (now (head .exit)) (now (after .exit)) (now (before .exit)) ⌝ }
 {
     let mut q: u16 = 0;

@@ -7,15 +7,15 @@ use mathlib.Core.List.{List}
 use native.Mathlib.Omega.{arith}
 use lib.ListN.{length}
 use Rattle.words.proofs.Tests.{either}
+use Rattle.words.proofs.Rule.{at-ext}
 use Rattle.step_slots.specs.Slots.{view}
 use Rattle.step_slots.proofs.Laws.{view-length, view-at}
-use Rattle.step_refine.specs.Refine.{has, nextOf}
-use Rattle.step_refine.specs.Phases.{Ready, Clean, Parts, Renewed}
-use Rattle.step_refine.proofs.Queues.{lined-once}
+use Rattle.step_refine.specs.Refine.{has, Lined, nextOf}
+use Rattle.step_refine.specs.Phases.{Bare, Ready, Clean, Parts, Renewed}
+use Rattle.step_refine.proofs.Queues.{has-inside, lined-once}
 use Rattle.step_refine.proofs.Next.{next-length}
 use Rattle.step_renew.specs.Names.{Placed, Named}
 use Rattle.step_renew.proofs.Views.{table-long}
-use Rattle.step_renew.proofs.Tables.{tables-equal}
 
 -- the queue of a step holds positions, each at one place
 pub ready-placed : (name que : List ℕ) (n m : ℕ) → Ready name que n m → Placed (view m que)
@@ -31,7 +31,7 @@ module _ (t Q name part name′ part′ : List ℕ) (P : Parts t Q part) (N : Na
   -- what stays was named before, and what moves is named by its part
   pub named-next : (n : ℕ) → n ≡ length t → n ≤ 1000 → Renewed t Q name → view n name′ ≡ nextOf t Q
   named-next n e l R =
-      tables-equal (view n name′) (nextOf t Q) (long ∙ e ∙ sym (next-length t Q))
+      at-ext (view n name′) (nextOf t Q) (long ∙ e ∙ sym (next-length t Q))
       (λ i a b.
       let c : i ≤ n = omega (arith, b, long) in
       view-at n name′ i a c
@@ -41,6 +41,11 @@ module _ (t Q name part name′ part′ : List ℕ) (P : Parts t Q part) (N : Na
     where
       long : length (view n name′) ≡ n
       long = view-length n name′ (omega (arith, N .name-long, l))
+
+  -- no name is given beyond the table
+  pub named-bare : Lined t Q → Renewed t Q name → Bare (length t) name′
+  named-bare L R i a b =
+      ⊎-elim (λ h. absurd (omega (arith, a, has-inside Q t L i h .1))) (λ h. N .kept i (omega arith) b h .0 ∙ R .beyond i a b) (either (has Q i))
 
   pub named-clean : Clean part′
   named-clean =

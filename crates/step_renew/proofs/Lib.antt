@@ -1,5 +1,4 @@
 pub mod Views
-pub mod Tables
 pub mod Kept
 pub mod Sweeps
 pub mod Turning

@@ -24,6 +24,7 @@ module _ (u dist : List ℕ) (h : ℕ) (W : Walkable u dist h) where
               let s : i ≡ h = omega (arith, b, e, W .least .high i a (omega (arith, b, W .high))) in
               rw s (put-same name h h (W .low) (omega (arith, W .high, W .few, long)));
           other = λ i a b ne. refl;
+          beyond = λ i l b. refl;
         };
         low = W .low;
         high = W .high;
@@ -56,6 +57,7 @@ module _ (u dist : List ℕ) (h : ℕ) (W : Walkable u dist h) where
             other = λ i a b ne.
                 put-other new (j + d) h i (omega (arith, p)) a (λ s. ne (ap (at u) s ∙ ahead-nearest .same ∙ S .of))
                 ∙ S .swept .other i a b ne;
+            beyond = λ i l b. put-other new (j + d) h i (omega (arith, p)) (omega arith) (omega (arith, ahead-nearest .high)) ∙ S .swept .beyond i l b;
           };
           low = omega (arith, p);
           high = ahead-nearest .high;
@@ -73,4 +75,5 @@ module _ (u dist : List ℕ) (h : ℕ) (W : Walkable u dist h) where
             (λ l. absurd (ahead-nearest (put name h h) new j d S .end z i l b (e ∙ sym (S .of))))
             (λ l. S .swept .named i a l e) (lt-or-ge j i);
         other = λ i a b ne. S .swept .other i a b ne ∙ put-other name h h i (W .low) a (λ s. ne (ap (at u) s ∙ W .own));
+        beyond = λ i l b. S .swept .beyond i l b ∙ put-other name h h i (W .low) (omega arith) (omega (arith, W .high));
       }

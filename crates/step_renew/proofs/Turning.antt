@@ -30,7 +30,7 @@ module _ (t Q name dist rest : List ℕ) (k : ℕ) (T : Turn t Q name dist rest 
 
   -- nothing is written where nothing stays of the group
   turn-idle : ((i : ℕ) → 1 ≤ i → i ≤ length t → at t i ≡ k → has Q i ≡ true) → RenewedTo t Q name name k
-  turn-idle h = record { long = T .long; stays = λ i a b f s. clash (h i a b s) f; moves = λ i f. refl; other = λ i a b ne. refl }
+  turn-idle h = record { long = T .long; stays = λ i a b f s. clash (h i a b s) f; moves = λ i f. refl; other = λ i a b ne. refl; beyond = λ i l b. refl }
 
   -- there is no group of a position that names none
   pub turn-nameless : at name k ≢ k → RenewedTo t Q name name k
@@ -67,6 +67,7 @@ module _ (t Q name dist rest : List ℕ) (k : ℕ) (T : Turn t Q name dist rest 
                 let b = has-inside Q t (T .lined) i f in
                 unnamed i (b .0) (omega (arith, b .1)) (λ g. clash f (g .0));
             other = λ i a b ne. unnamed i a b (λ g. ne (g .1));
+            beyond = λ i l b. S .beyond i (rw (next-length t Q) l) b;
           }
         where
           unnamed : (i : ℕ) → 1 ≤ i → i ≤ length t → ((has Q i ≡ false) × (at t i ≡ k) → ⊥) → at new i ≡ at name i
@@ -84,6 +85,7 @@ module _ (name que : List ℕ) (n m : ℕ) (R : Ready name que n m) where
             let b = has-inside (view m que) (view n name) (R .lined) i f in
             sym (view-at n name i (b .0) (omega (arith, b .1, table-long name que n m R)));
         other = λ i a b f. sym (view-at n name i a (omega (arith, b, table-long name que n m R)));
+        beyond = λ i a b. R .beyond i (omega (arith, a, table-long name que n m R)) b;
       }
 
   module _ (new : List ℕ) (q : ℕ) (l : q < m) (M : Renewing (view n name) (view m que) new q) where
@@ -116,6 +118,7 @@ module _ (name que : List ℕ) (n m : ℕ) (R : Ready name que n m) where
               T .other i c d ne ∙ M .stays r a (omega arith) i c d f s);
           moves = λ i f. T .moves i f ∙ M .moves i f;
           other = λ i a b f. T .other i a b (λ e. clash (ap (has (view m que)) e ∙ place-moves) f) ∙ M .other i a b f;
+          beyond = λ i a b. T .beyond i a b ∙ M .beyond i a b;
         }
 
   pub turns-end : (new : List ℕ) (q : ℕ) → m ≤ q → Renewing (view n name) (view m que) new q → Renewed (view n name) (view m que) new
@@ -129,4 +132,5 @@ module _ (name que : List ℕ) (n m : ℕ) (R : Ready name que n m) where
             let r = has-is (view m que) (at (view n name) i) g in
             M .stays (r .0) (r .1) (omega (arith, r .2, queue-long name que n m R)) i a b f (sym (r .3)))
             (λ g. M .other i a b g ∙ sym (name-kept (view n name) (view m que) (R .least) (R .lined) i a b f g)) (either (has (view m que) (at (view n name) i)));
+        beyond = M .beyond;
       }

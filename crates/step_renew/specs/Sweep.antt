@@ -6,7 +6,7 @@ use mathlib.Core.List.{List}
 use lib.ListN.{length}
 use Rattle.words.specs.Reads.{at}
 use Rattle.words.specs.Groups.{Least, gap}
-use Rattle.step_refine.specs.Phases.{Gaps}
+use Rattle.step_refine.specs.Phases.{Kept, Gaps}
 
 -- what the walk asks: dist holds the distances of u, a table of least names, in which h names a group
 pub record Walkable (u dist : List ℕ) (h : ℕ) : Type 0 where
@@ -22,6 +22,7 @@ pub record Swept (u old new : List ℕ) (h j : ℕ) : Type 0 where
   pub long : length new ≡ 1000
   pub named : (i : ℕ) → 1 ≤ i → i ≤ j → at u i ≡ h → at new i ≡ h
   pub other : (i : ℕ) → 1 ≤ i → i ≤ length u → at u i ≢ h → at new i ≡ at old i
+  pub beyond : Kept (length u) old new
 
 -- the walk has come to j, and d is the distance ahead
 pub record Sweeping (u old new : List ℕ) (h j d : ℕ) : Type 0 where

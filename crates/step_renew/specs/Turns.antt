@@ -9,7 +9,7 @@ use lib.ListN.{length}
 use Rattle.words.specs.Reads.{at}
 use Rattle.words.specs.Groups.{Least}
 use Rattle.step_refine.specs.Refine.{has, Lined, nextOf}
-use Rattle.step_refine.specs.Phases.{Gaps, Rests}
+use Rattle.step_refine.specs.Phases.{Bare, Kept, Gaps, Rests}
 
 -- what the turn of the position k asks: k moves, and name still holds its old name
 pub record Turn (t Q name dist rest : List ℕ) (k : ℕ) : Type 0 where
@@ -28,6 +28,7 @@ pub record RenewedTo (t Q old new : List ℕ) (k : ℕ) : Type 0 where
   pub stays : (i : ℕ) → 1 ≤ i → i ≤ length t → has Q i ≡ false → at t i ≡ k → at new i ≡ at (nextOf t Q) i
   pub moves : (i : ℕ) → has Q i ≡ true → at new i ≡ at old i
   pub other : (i : ℕ) → 1 ≤ i → i ≤ length t → at t i ≢ k → at new i ≡ at old i
+  pub beyond : Kept (length t) old new
 
 -- after q turns what stays of their groups has its new name; what moves, and each group whose least position stays, has its old name
 pub record Renewing (t Q name : List ℕ) (q : ℕ) : Type 0 where
@@ -35,3 +36,4 @@ pub record Renewing (t Q name : List ℕ) (q : ℕ) : Type 0 where
   pub stays : (r : ℕ) → 1 ≤ r → r ≤ q → (i : ℕ) → 1 ≤ i → i ≤ length t → has Q i ≡ false → at t i ≡ at Q r → at name i ≡ at (nextOf t Q) i
   pub moves : (i : ℕ) → has Q i ≡ true → at name i ≡ at t i
   pub other : (i : ℕ) → 1 ≤ i → i ≤ length t → has Q (at t i) ≡ false → at name i ≡ at t i
+  pub beyond : Bare (length t) name

@@ -56,6 +56,7 @@ mid-start t Q rest sizes e S =
       held = λ r a b. absurd (omega arith);
       done = λ s c d r a b. absurd (omega arith);
       due = λ s a b f. S .held s a b;
+      beyond = S .beyond;
     }
 
 module _ (t Q : List ℕ) (L : Least t) (N : Lined t Q) where
@@ -80,6 +81,7 @@ module _ (t Q : List ℕ) (L : Least t) (N : Lined t Q) where
           done = λ s c d r a b e.
               ⊎-elim (λ p. absurd (ne (rw (← p, e) (L .own s c d)))) (λ p. M .done s c d r a (omega arith) e) (eq-or-lt-of-le b);
           due = λ s c d f. M .due s c d (λ r a b. f r a (omega arith));
+          beyond = M .beyond;
         }
 
     module _ (own : at t k ≡ k) where
@@ -141,6 +143,10 @@ module _ (t Q : List ℕ) (L : Least t) (N : Lined t Q) where
             due = λ s c d f.
                 turned-other s c (λ e. f (q + 1) (omega arith) (omega arith) (sym e))
                 ∙ M .due s c d (λ r a b. f r a (omega arith));
+            beyond = λ s c d.
+                some-other (put sizes k 0) h (at sizes k) s (omega arith) (λ p. omega (arith, p, stayer-is t Q k h refl (omega arith) .high))
+                ∙ put-other sizes k 0 s k-low (omega arith) (omega (arith, k-high))
+                ∙ M .beyond s c d;
           }
 
     pub mid-step : RestedTo t Q (q + 1) (restTurn rest (at t k) k h) (sizeTurn sizes (at t k) k h)
@@ -180,4 +186,5 @@ module _ (t Q : List ℕ) (L : Least t) (N : Lined t Q) where
               let b = has-inside Q t N s h in
               sizes-final s (b .0) (omega (arith, b .1)) ∙ remains-moved t Q s h;
           kept = λ s a b h. sizes-final s a b ∙ remains-kept t Q s h;
+          beyond = M .beyond;
         }

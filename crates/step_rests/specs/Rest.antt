@@ -10,7 +10,7 @@ use Rattle.words.specs.Reads.{at}
 use Rattle.words.specs.Groups.{Least, size}
 use Rattle.step_slots.specs.Slots.{put, putSome}
 use Rattle.step_refine.specs.Refine.{has, Lined, nextOf, stayer, stayers}
-use Rattle.step_refine.specs.Phases.{Gaps, Parts}
+use Rattle.step_refine.specs.Phases.{Bare, Gaps, Parts}
 
 -- the next position of the group of j by the distances; 0 if there is none
 unfoldable pub after : List ℕ → ℕ → ℕ
@@ -56,3 +56,4 @@ pub record RestedTo (t Q : List ℕ) (q : ℕ) (rest sizes : List ℕ) : Type 0 
   pub held : (r : ℕ) → 1 ≤ r → r ≤ q → at t (at Q r) ≡ at Q r → at rest (at Q r) ≡ stayer t Q (at Q r)
   pub done : (s : ℕ) → 1 ≤ s → s ≤ length t → (r : ℕ) → 1 ≤ r → r ≤ q → at Q r ≡ at t s → at sizes s ≡ remains t Q s
   pub due : (s : ℕ) → 1 ≤ s → s ≤ length t → ((r : ℕ) → 1 ≤ r → r ≤ q → at Q r ≢ at t s) → at sizes s ≡ stayers t Q s
+  pub beyond : Bare (length t) sizes

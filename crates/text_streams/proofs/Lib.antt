@@ -2,5 +2,12 @@ pub mod Newlines
 pub mod Keeping
 pub mod Plain
 pub mod Parts
-pub mod Turns
 pub mod Placing
+pub mod Telling
+pub mod Turns
+pub mod Lines
+pub mod Pending
+pub mod Runs
+pub mod Advancing
+pub mod Hearing
+pub mod Settled

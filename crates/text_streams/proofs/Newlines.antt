@@ -34,6 +34,9 @@ module _ (chunk : List ℕ) (from : ℕ) where
     pub end-bounds : {e : ℕ} → e ≡ lineEnd chunk from → (from ≤ e) × (e ≤ length chunk)
     end-bounds q = rw q (end-from, end-inside)
 
+    pub end-here : lineEnd chunk from < length chunk → ends chunk (lineEnd chunk from) ≡ true
+    end-here l = end-found .pass (omega arith)
+
     pub end-is : (i : ℕ) → from ≤ i → i ≤ length chunk → ((k : ℕ) → from ≤ k → k < i → ends chunk k ≡ false) →
         (i < length chunk → ends chunk i ≡ true) → i ≡ lineEnd chunk from
     end-is i a b none here =

@@ -5,7 +5,7 @@ use mathlib.Core.Logic.{⊎-elim}
 use native.Mathlib.Omega.{arith}
 use borrow.Author.Tests.{le-leb, lt-leb}
 use Rattle.words.proofs.Tests.{lt-or-ge}
-use Rattle.text_streams.specs.Places.{nextPlace}
+use Rattle.text_streams.specs.Outputs.{nextPlace}
 
 module _ (need size used : ℕ) where
   pub place-after : need + used ≤ size → used ≡ nextPlace need size used

@@ -8,8 +8,7 @@ use native.Mathlib.Omega.{arith}
 use lib.ListN.{length, drop, List·getD-append, List·getD-eq-default}
 use lib.Seq.{getD-append-add, getD-take, getD-drop}
 use Rattle.words.proofs.Tests.{lt-or-ge}
-use Rattle.words.proofs.Ranges.{append-nil}
-use Rattle.text_streams.specs.Lines.{ends, lineEnd, lineRest, Keeps, Continues}
+use Rattle.text_streams.specs.Lines.{ends, lineEnd, lineRest, Plain}
 use Rattle.text_streams.proofs.Newlines.{end-least, rest-length}
 
 -- behind the last byte there is none
@@ -17,7 +16,10 @@ plain-past : (l : List ℕ) (i : ℕ) → length l ≤ i → ends l i ≡ false
 unfolding ends
 plain-past l i h = rw (List·getD-eq-default l 0 h)
 
-pub part-plain : (chunk : List ℕ) (from : ℕ) → from ≤ length chunk → (i : ℕ) → ends (lineRest chunk from) i ≡ false
+pub plain-none : Plain []
+plain-none i = plain-past [] i (omega arith)
+
+pub part-plain : (chunk : List ℕ) (from : ℕ) → from ≤ length chunk → Plain (lineRest chunk from)
 unfolding ends lineRest
 part-plain chunk from h i = ⊎-elim inside (plain-past (lineRest chunk from) i) (lt-or-ge i (length (lineRest chunk from)))
   where
@@ -27,7 +29,7 @@ part-plain chunk from h i = ⊎-elim inside (plain-past (lineRest chunk from) i)
         rw (getD-take (lineEnd chunk from - from) (drop from chunk) i 0 b, getD-drop from chunk i 0)
         (end-least chunk from (from + i) (omega arith) (omega arith))
 
-pub plain-more : (a b : List ℕ) → ((i : ℕ) → ends a i ≡ false) → ((i : ℕ) → ends b i ≡ false) → (i : ℕ) → ends (a ++ b) i ≡ false
+pub plain-more : (a b : List ℕ) → Plain a → Plain b → Plain (a ++ b)
 unfolding ends
 plain-more a b p q i = ⊎-elim first second (lt-or-ge i (length a))
   where
@@ -38,6 +40,3 @@ plain-more a b p q i = ⊎-elim first second (lt-or-ge i (length a))
     second l =
         let e : i ≡ length a + (i - length a) = omega arith in
         rw (e, getD-append-add a b (i - length a) 0) (q (i - length a))
-
-pub continues-none : {x line : List ℕ} {len : ℕ} → Keeps x len line → Continues x len line
-continues-none {x} k = record { after = []; plain = λ i. plain-past [] i (omega arith); keeps = rw (append-nil x) k }

@@ -1,3 +1,5 @@
 pub mod Lines
 pub mod Cuts
-pub mod Places
+pub mod Outputs
+pub mod Runs
+pub mod Heard

@@ -1,30 +1,98 @@
-// Standard input cut into lines, and standard output collected into large writes. `next_line` gives the next line, made of functions on
-// slices whose contracts settle each byte: only the read call itself is not proved. A line may be longer than memory: as many of its bytes
-// as the line buffer has room for are kept, and the rest is counted. `room` and `flush` say where the next text goes.
+// Standard input cut into lines, and standard output collected into large writes. A turn takes the bytes that are there up to the next newline
+// or, where there is none, writes out what is collected and makes one read call: a program that waits for more has said all that it knows.
+// A line may be longer than memory: as many of its bytes as the line buffer has room for are kept, and the rest is counted.
+// The contracts speak of all that read calls gave and write calls took (`text_pipes`): specs/Runs.antt says what a program then owes.
 ghost use mathlib.Core.Path.{_≡_};
-ghost use mathlib.Core.Bool.{false};
-ghost use Prim.Native.Nat.{_+_, _≤_, _<_};
+ghost use Prim.Native.Nat.{_+_, _≤_};
 ghost use lib.ListN.{length};
+ghost use mathlib.Core.List.{[]};
 ghost use Rattle.text_streams.specs.Lines.{lineEnd, kept, counted};
-ghost use Rattle.text_streams.specs.Cuts.{Within, Taken, Refilled, Turned, Went, Given};
-ghost use Rattle.text_streams.specs.Places.{nextPlace};
+ghost use Rattle.text_streams.specs.Cuts.{Within, Taken, stopped, Waited, Turned};
+ghost use Rattle.text_streams.specs.Outputs.{nextPlace, Adds};
+ghost use Rattle.text_streams.specs.Runs.{beginning, going};
 use libc::STDIN_FILENO;
-use libc::STDOUT_FILENO;
+
+// ---- texts out
+
+// what is collected: `used` bytes of the output buffer; `ok` is false once a write failed
+pub struct Out {
+    pub used: usize,
+    pub ok: bool,
+}
+
+// writes out what is collected; a failed write is told, and after it nothing is written
+pub fn flush(buf: &[u8], o: Out) -> Out
+    requires { ⌜ o .used ≤ length (now buf) ⌝ }
+    ensures { λ r. ⌜ (r .used ≡ 0) × Adds (now (buf .entry)) o [] (now (buf .entry)) r ⌝ }
+{
+    let used = o.used;
+    if !o.ok {
+        return Out { used: 0, ok: false };
+    }
+    let done = text_pipes::hand(&buf[..used]);
+    if done < used {
+        text_pipes::tell_unwritten(done, used);
+        return Out { used: 0, ok: false };
+    }
+    Out { used: 0, ok: true }
+}
+
+// makes room for a text of at most `need` bytes: where it does not fit behind what is collected, that is written out
+pub fn room(buf: &[u8], need: usize, o: Out) -> Out
+    requires { ⌜ o .used ≤ length (now buf) ⌝ }
+    ensures { λ r. ⌜ (r .used ≡ nextPlace need (length (now (buf .entry))) (o .used)) × Adds (now (buf .entry)) o [] (now (buf .entry)) r ⌝ }
+{
+    let used = o.used;
+    if need <= buf.len() - used {
+        return o;
+    }
+    flush(buf, o)
+}
 
 // ---- lines in
 
-// where the input goes on: the bytes of the last read call from `from` to `end` are not taken yet; `more` is false once the input has ended
+// where the input goes on: the bytes of the last read call from `from` to `end` are not taken yet, and `len` bytes of a line came before them;
+// `more` is false once the input has ended, or a read or a write failed
 pub struct Source {
     pub from: usize,
     pub end: usize,
+    pub len: usize,
     pub more: bool,
 }
 
-// the next line, if one was found: its length, and where the input goes on
-pub struct Line {
+// where a program stands between two turns
+pub struct State {
+    pub source: Source,
+    pub out: Out,
+}
+
+// what a turn found: a line of `len` bytes, or none yet
+pub struct Next {
     pub found: bool,
     pub len: usize,
-    pub source: Source,
+    pub state: State,
+}
+
+// does a program go on?
+pub fn goes_on(s: State) -> bool
+    ensures { λ r. ⌜ r ≡ going s ⌝ }
+{
+    s.source.more && s.out.ok
+}
+
+// where every program begins
+pub fn begin() -> State
+    ensures { λ r. ⌜ r ≡ beginning ⌝ }
+{
+    State {
+        source: Source {
+            from: 0,
+            end: 0,
+            len: 0,
+            more: true,
+        },
+        out: Out { used: 0, ok: true },
+    }
 }
 
 // the place of the first newline from a place on, or the length
@@ -94,148 +162,79 @@ fn take_part(chunk: &[u8], from: usize, line: &mut [u8], len: usize) -> Part
     }
 }
 
-// the line so far, and whether it goes on
-struct Turn {
-    again: bool,
-    line: Line,
-}
-
-// one read call. Where it fails the line so far is not known to be a read, and is given up; at the end of the input it counts if not empty
-fn refill(input: &mut [u8], len: usize) -> Turn
-    ensures { λ r. ⌜ Refilled (now (input .entry)) len r ⌝ }
+// no line follows: the input has ended, or a read or a write failed
+fn stop(found: bool, len: usize, out: Out) -> Next
+    ensures { λ r. ⌜ r ≡ stopped found len out ⌝ }
 {
-    let got = libc::read(STDIN_FILENO, input);
-    let n = io::count(got, input);
-    if 0 < n {
-        return Turn {
-            again: true,
-            line: Line {
-                found: false,
-                len,
-                source: Source {
-                    from: 0,
-                    end: n,
-                    more: true,
-                },
-            },
-        };
-    }
-    Turn {
-        again: false,
-        line: Line {
-            found: got == 0 && 0 < len,
-            len,
+    Next {
+        found,
+        len,
+        state: State {
             source: Source {
                 from: 0,
                 end: 0,
+                len,
                 more: false,
             },
+            out,
         },
     }
 }
 
-// the line so far with the next part, and a read call where the chunk has no newline more
-fn advance(input: &mut [u8], line: &mut [u8], s: Source, len: usize) -> Turn
-    requires { ⌜ Within (now input) s ⌝ }
-    ensures { λ r. ⌜ Turned (now (input .entry)) (now (line .entry)) s len (now (input .exit)) (now (line .exit)) r ⌝ }
+// one read call behind a line of `len` bytes: at the end of the input the line counts if it is not empty, and after a failure it does not
+fn fill(input: &mut [u8], len: usize, out: Out) -> Next
+    ensures { λ r. ⌜ Waited len out (now (input .exit)) r ⌝ }
 {
-    let from = s.from;
-    let end = s.end;
-    let p = take_part(&input[..end], from, line, len);
+    if !out.ok {
+        return stop(false, len, out);
+    }
+    let g = text_pipes::ask(STDIN_FILENO, input);
+    if 0 < g.count {
+        return Next {
+            found: false,
+            len,
+            state: State {
+                source: Source {
+                    from: 0,
+                    end: g.count,
+                    len,
+                    more: true,
+                },
+                out,
+            },
+        };
+    }
+    if g.ended {
+        return stop(0 < len, len, out);
+    }
+    text_pipes::tell_unread(len);
+    stop(false, len, out)
+}
+
+// the bytes that are there up to the next newline; where there is none, what is collected is written out, and one read call is made
+pub fn turn(input: &mut [u8], line: &mut [u8], buf: &[u8], s: State) -> Next
+    requires { ⌜ Within (now input) (s .source) × (s .out .used ≤ length (now buf)) ⌝ }
+    ensures { λ r. ⌜ Turned (now (input .entry)) (now (line .entry)) (now (buf .entry)) s (now (input .exit)) (now (line .exit)) r ⌝ }
+{
+    let source = s.source;
+    let o = s.out;
+    let end = source.end;
+    let p = take_part(&input[..end], source.from, line, source.len);
     if p.ended {
-        return Turn {
-            again: false,
-            line: Line {
-                found: true,
-                len: p.len,
+        return Next {
+            found: true,
+            len: p.len,
+            state: State {
                 source: Source {
                     from: p.next,
                     end,
-                    more: s.more,
+                    len: 0,
+                    more: true,
                 },
+                out: o,
             },
         };
     }
-    if s.more {
-        return refill(input, p.len);
-    }
-    Turn {
-        again: false,
-        line: Line {
-            found: 0 < p.len,
-            len: p.len,
-            source: Source {
-                from: end,
-                end,
-                more: false,
-            },
-        },
-    }
-}
-
-// The line so far to its end. Nothing says that the input ends, so the loop counts its turns down, from a number that no run uses up.
-fn go_on(input: &mut [u8], line: &mut [u8], start: Line) -> Line
-    requires { ⌜ Within (now input) (start .source) ⌝ }
-    ensures { λ r. ⌜ Went (now (input .entry)) (now (line .entry)) (start .len) (now (line .exit)) r ⌝ }
-{
-    let mut l = start;
-    let mut turns = u64::MAX;
-    while turns > 0 {
-        let s = l.source;
-        let t = advance(input, line, s, l.len);
-        l = t.line;
-        if !t.again {
-            return l;
-        }
-        turns -= 1;
-    }
-    l
-}
-
-// the next line of standard input: each line up to a newline counts, and a last line without one counts if it is not empty
-pub fn next_line(input: &mut [u8], line: &mut [u8], s: Source) -> Line
-    requires { ⌜ Within (now input) s ⌝ }
-    ensures { λ r. ⌜ Given (now (input .entry)) s (now (input .exit)) (now (line .exit)) r ⌝ }
-{
-    let t = advance(input, line, s, 0);
-    let l = t.line;
-    if t.again {
-        return go_on(input, line, l);
-    }
-    l
-}
-
-// ---- texts out
-
-// what is collected: `used` bytes of the output buffer; `ok` is false once a write failed
-pub struct Out {
-    pub used: usize,
-    pub ok: bool,
-}
-
-// writes out what is collected; after a failed write nothing is written
-pub fn flush(buf: &[u8], o: Out) -> Out
-    requires { ⌜ o .used ≤ length (now buf) ⌝ }
-    ensures { λ r. ⌜ (r .used ≡ 0) × (o .ok ≡ false → r .ok ≡ false) ⌝ }
-{
-    let used = o.used;
-    if o.ok {
-        return Out {
-            used: 0,
-            ok: io::write_all(STDOUT_FILENO, &buf[..used]),
-        };
-    }
-    Out { used: 0, ok: false }
-}
-
-// makes room for a text of at most `need` bytes: where it does not fit behind what is collected, that is written out
-pub fn room(buf: &[u8], need: usize, o: Out) -> Out
-    requires { ⌜ o .used ≤ length (now buf) ⌝ }
-    ensures { λ r. ⌜ (r .used ≡ nextPlace need (length (now (buf .entry))) (o .used)) × (o .ok ≡ false → r .ok ≡ false) ⌝ }
-{
-    let used = o.used;
-    if need <= buf.len() - used {
-        return o;
-    }
-    flush(buf, o)
+    let out = flush(buf, o);
+    fill(input, p.len, out)
 }

@@ -26,6 +26,7 @@ use Rattle.text_puts.proofs.Bounds.{gather-bound, numbers-bound}
 use Rattle.text_views.specs.Views.{colon, spaced, shown, memberText, membersText, groupText, groupsText, alone, singleText, singlesText, aloneText}
 use Rattle.text_views.specs.Views.{begins, ends, underText, endText, moveText, movesText, repeatText, repeatsText}
 use Rattle.text_views.specs.Views.{widthText, widthRoom, headText, verdictText}
+use Rattle.text_views.proofs.Bytes.{bytes-bound}
 
 row-short : (c : ℕ) (l : List ℕ) (k : ℕ) → length (row c l k) ≤ c
 unfolding row
@@ -154,9 +155,9 @@ width-bound w t moves lines h few a b =
     ))
 
 -- the first line and the last
-pub head-bound : (x : List ℕ) → length x < 2 ^ 64 → length (headText x) ≤ length x + 27
+pub head-bound : (x : List ℕ) → length x < 2 ^ 64 → length (headText x) ≤ 4 * length x + 27
 unfolding headText ascii
-head-bound x h = simp length-append (omega (arith, number-length (length x) 20 space (omega arith) (omega arith)))
+head-bound x h = simp length-append (omega (arith, number-length (length x) 20 space (omega arith) (omega arith), bytes-bound x))
 
 pub verdict-bound : (w : ℕ) → w < 2 ^ 64 → length (verdictText w) ≤ 64
 unfolding verdictText ascii

@@ -14,17 +14,17 @@ use Rattle.text_puts.specs.Ascii.{ascii}
 use Rattle.text_puts.specs.Numbers.{space, newline, numberText, numbersText}
 use Rattle.text_puts.specs.Puts.{Room, Puts}
 use Rattle.text_views.specs.Views.{colon, spaced, membersText, groupText, groupsText, alone, singlesText, aloneText}
-use Rattle.text_views.specs.Views.{begins, underText, endText, moveText, movesText, repeatText, repeatsText, widthText, headText}
+use Rattle.text_views.specs.Views.{begins, underText, endText, moveText, movesText, repeatText, repeatsText, widthText, bytesText, headText}
 use Rattle.text_puts.proofs.Pieces.{front-room, back-room, both-puts, first-room, second-room, third-room, three-puts}
 use Rattle.text_views.proofs.Shapes.{group-some, alone-some, under-first}
 
 -- the first line of a read
 module _ (x : List ℕ) {buf : List ℕ} {at : ℕ} (h : Room buf at (headText x)) where
-  head-whole : Room buf at (ascii "read " ++ numberText (length x) space ++ x ++ ascii "\n")
+  head-whole : Room buf at (ascii "read " ++ numberText (length x) space ++ bytesText x ++ ascii "\n")
   unfolding headText
   head-whole = h
 
-  head-front : Room buf at (ascii "read " ++ numberText (length x) space ++ x)
+  head-front : Room buf at (ascii "read " ++ numberText (length x) space ++ bytesText x)
   head-front = front-room _ _ head-whole
 
   pub read-room : Room buf at (ascii "read ")
@@ -35,10 +35,10 @@ module _ (x : List ℕ) {buf : List ℕ} {at : ℕ} (h : Room buf at (headText x
     length-room = second-room _ _ _ head-front p
 
     module _ {m₂ : List ℕ} {a₂ : ℕ} (q : Puts m₁ a₁ (numberText (length x) space) m₂ a₂) where
-      pub bytes-room : Room m₂ a₂ x
+      pub bytes-room : Room m₂ a₂ (bytesText x)
       bytes-room = third-room _ _ _ head-front p q
 
-      module _ {m₃ : List ℕ} {a₃ : ℕ} (r : Puts m₂ a₂ x m₃ a₃) where
+      module _ {m₃ : List ℕ} {a₃ : ℕ} (r : Puts m₂ a₂ (bytesText x) m₃ a₃) where
         pub head-end-room : Room m₃ a₃ (ascii "\n")
         head-end-room = back-room _ _ head-whole (three-puts _ _ _ head-front p q r)
 

@@ -1,8 +1,8 @@
 -- The bench view: the text of one width, from the table t of its groups, its moves and its lines; the first line of a read's view and the last.
-use Prim.Native.Nat.{ℕ, _+_, _-_, _*_}
-use mathlib.Core.Bool.{Bool, _||_, not, cond}
+use Prim.Native.Nat.{ℕ, _+_, _-_, _*_, _≤_}
+use mathlib.Core.Bool.{Bool, _&&_, _||_, not, cond}
 use mathlib.Core.List.{List, [], _∷_, _++_}
-use lib.ListN.{length}
+use lib.ListN.{length, getD}
 use lib.Dec.{leb, eqb}
 use Rattle.words.specs.Range.{count, gather}
 use Rattle.words.specs.Rows.{rows, row}
@@ -10,6 +10,8 @@ use Rattle.words.specs.Reads.{at}
 use Rattle.words.specs.Groups.{size}
 use Rattle.words.specs.Lists.{lineSize}
 use Rattle.words.specs.Moves.{moveSize, nameOf, placeOf}
+use Rattle.words.specs.Logs.{within}
+use Rattle.io.specs.Digits.{digits}
 use Rattle.text_puts.specs.Ascii.{ascii}
 use Rattle.text_puts.specs.Numbers.{space, newline, decimal, numberText, numbersText}
 
@@ -99,9 +101,34 @@ widthText w t moves lines =
 unfoldable pub widthRoom : ℕ → ℕ → ℕ → ℕ
 widthRoom n moves lines = 27 * n + 27 * moves + (9 + 6 * lineSize) * lines + 64
 
+-- the byte that begins the other form
+abbrev pub backslash : ℕ
+backslash = 92
+
+-- a byte can stand for itself: it has a sign of its own, and is not the backslash
+unfoldable pub plainByte : ℕ → Bool
+plainByte b = within 33 126 b && not (eqb b backslash)
+
+-- the other form: a backslash, x and two hexadecimal digits
+unfoldable pub digitsText : ℕ → List ℕ
+digitsText b = ascii "\\x" ++ digits 16 2 b
+
+-- a byte as the bench sees it, in the one form or the other
+unfoldable pub byteText : ℕ → List ℕ
+byteText b = cond (plainByte b) (b ∷ []) (digitsText b)
+
+-- the bytes of a read, so that no terminal obeys one
+unfoldable pub bytesText : List ℕ → List ℕ
+bytesText x = gather (λ k. byteText (getD x k 0)) (length x) 0
+
+-- no byte of a text is one that a terminal obeys, and none is blank
+unfoldable pub Visible : List ℕ → Type 0
+Visible [] = Unit
+Visible (b ∷ l) = (33 ≤ b) × (b ≤ 126) × Visible l
+
 -- the first line: the read's length and its bytes
 unfoldable pub headText : List ℕ → List ℕ
-headText x = ascii "read " ++ numberText (length x) space ++ x ++ ascii "\n"
+headText x = ascii "read " ++ numberText (length x) space ++ bytesText x ++ ascii "\n"
 
 -- the last line, by the first width at which list and groups differ, 0 for none
 unfoldable pub verdictText : ℕ → List ℕ

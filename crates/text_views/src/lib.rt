@@ -11,7 +11,7 @@ ghost use Rattle.words.specs.Moves.{moveSize};
 ghost use Rattle.text_puts.specs.Puts.{Room, Puts};
 ghost use Rattle.text_views.specs.Views.{spaced, shown, membersText, groupText, groupsText, alone, singlesText, aloneText};
 ghost use Rattle.text_views.specs.Views.{begins, ends, underText, endText, moveText, movesText, repeatText, repeatsText};
-ghost use Rattle.text_views.specs.Views.{widthText, headText, verdictText};
+ghost use Rattle.text_views.specs.Views.{widthText, plainByte, digitsText, byteText, bytesText, headText, verdictText};
 use row_cells::part;
 use row_lines::line_size;
 use row_moves::entries;
@@ -273,6 +273,56 @@ pub fn put_width(
     put_repeats(buf, next, lines)
 }
 
+// can a byte stand for itself?
+fn is_plain(b: u8) -> bool
+    ensures { λ r. ⌜ r ≡ plainByte b ⌝ }
+{
+    if b < 33 {
+        return false;
+    }
+    if 126 < b {
+        return false;
+    }
+    b != b'\\'
+}
+
+// a byte in the form of its two digits
+fn put_digits(buf: &mut [u8], at: usize, b: u8) -> usize
+    requires { ⌜ Room (now buf) at (digitsText b) ⌝ }
+    ensures { λ r. ⌜ Puts (now (buf .entry)) at (digitsText b) (now (buf .exit)) r ⌝ }
+{
+    let mut text = [0u8; 16];
+    let k = io::hex(b as u64, 2, &mut text);
+    let next = put_word(buf, at, b"\\x");
+    put_word(buf, next, &text[..k])
+}
+
+// a byte of a read
+fn put_byte(buf: &mut [u8], at: usize, b: u8) -> usize
+    requires { ⌜ Room (now buf) at (byteText b) ⌝ }
+    ensures { λ r. ⌜ Puts (now (buf .entry)) at (byteText b) (now (buf .exit)) r ⌝ }
+{
+    if is_plain(b) {
+        buf[at] = b;
+        return at + 1;
+    }
+    put_digits(buf, at, b)
+}
+
+// the bytes of a read
+fn put_bytes(buf: &mut [u8], at: usize, read: &[u8]) -> usize
+    requires { ⌜ Room (now buf) at (bytesText (now read)) ⌝ }
+    ensures { λ r. ⌜ Puts (now (buf .entry)) at (bytesText (now (read .entry))) (now (buf .exit)) r ⌝ }
+{
+    let mut next = at;
+    let mut i = 0;
+    while i < read.len() {
+        next = put_byte(buf, next, read[i]);
+        i += 1;
+    }
+    next
+}
+
 // the first line of a read's view
 pub fn put_head(buf: &mut [u8], at: usize, read: &[u8]) -> usize
     requires { ⌜ Room (now buf) at (headText (now read)) ⌝ }
@@ -280,7 +330,7 @@ pub fn put_head(buf: &mut [u8], at: usize, read: &[u8]) -> usize
 {
     let next = put_word(buf, at, b"read ");
     let next = put_number(buf, next, read.len() as u64, b' ');
-    let next = put_word(buf, next, read);
+    let next = put_bytes(buf, next, read);
     put_word(buf, next, b"\n")
 }
 

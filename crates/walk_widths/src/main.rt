@@ -96,7 +96,7 @@ fn widths(read: &[u8])
 }
 
 fn within(read: &[u8]) {
-    if 1000 < read.len() {
+    if Partition::MOST < read.len() {
         return;
     }
     widths(read);

@@ -1,5 +1,5 @@
 -- The number of moves: of a width by the rule of moves, of the log as the sum over its widths, and at most M. Assumes nothing.
-use Prim.Native.Nat.{ℕ, zero, suc, _+_, _-_, _*_, _^_, _≤_, _<_}
+use Prim.Native.Nat.{ℕ, zero, suc, _+_, _-_, _*_, _/_, _^_, _≤_, _<_, max}
 use mathlib.Core.Path.{_≡_, refl, sym, ap, _∙_}
 use mathlib.Core.Logic.{_⊎_, inl, inr, _≢_}
 use mathlib.Core.Bool.{Bool, true, false, _&&_, not, cond}
@@ -13,7 +13,7 @@ use borrow.Author.Tests.{ltb-true, ltb-false, ne-eqb, not-true}
 use Rattle.words.specs.Range.{sum, bit, count, gather}
 use Rattle.words.specs.Reads.{at}
 use Rattle.words.specs.Groups.{table, size, big, smalls, Least}
-use Rattle.words.specs.Moves.{moveOf, moveSize, moveAt, movesOf, movesIn, moveCount, moves, log, top, log2, M}
+use Rattle.words.specs.Moves.{moveOf, moveSize, moveAt, movesOf, movesIn, moveCount, moves, log, topOf, top, log2, M}
 use Rattle.words.proofs.Tests.{lt-or-ge, eqb-self, bit-le}
 use Rattle.words.proofs.Ranges.{found, Found}
 use Rattle.words.proofs.Sums.{sum-same, sum-le, sum-const, sum-zero, sum-times, sum-only, sum-swap, sum-more, length-gather}
@@ -106,6 +106,11 @@ module _ (x : List ℕ) where
   pub moves-length : (w : ℕ) → length (moves x w) ≡ moveSize * moveCountAt w
   unfolding moves
   moves-length w = moves-in-length (table x w) (smalls x w) (table-least x w) w
+
+  -- a read shorter than 4 has an empty log
+  pub log-short : length x < 4 → log x ≡ []
+  unfolding log top topOf gather
+  log-short h = let e : max 1 (length x / 2) - 1 ≡ 0 = omega arith in rw e
 
   -- the log's length is the sum over its widths
   pub log-length : length (log x) ≡ moveSize * sum (λ w. moveCountAt w) (top x - 1) 1

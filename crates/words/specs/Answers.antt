@@ -6,6 +6,7 @@ use Rattle.words.specs.declared.Tabled.{Tabled}
 use Rattle.words.specs.declared.Logged.{Logged}
 use Rattle.words.specs.declared.Replayed.{Replayed}
 use Rattle.words.specs.declared.Claimed.{Claimed}
+use Rattle.words.specs.declared.Entry.{Entry}
 
 -- the number, 0 for success and else the refusal's, and what is returned with it
 pub record Answer : Type 0 where
@@ -49,3 +50,8 @@ unfoldable pub claimedSays : Claimed → Answer
 claimedSays Claimed.Yes = success 1
 claimedSays Claimed.No = success 0
 claimedSays (Claimed.TooLong n) = refusal 1 n
+
+-- an entry is its width, name and position; that the log has ended is no refusal, and comes with no value
+unfoldable pub entrySays : Entry → Answer
+entrySays (Entry.Move w s j) = record { number = 0; values = w ∷ s ∷ j ∷ [] }
+entrySays Entry.Ended = record { number = 0; values = [] }

@@ -35,7 +35,8 @@ same-length-5 : tie.Need-same-length-5
 same-length-5 c = search needs
 
 returns-2 : tie.Need-returns-2
-returns-2 c = viewed-whole (omega arith) (omega arith) (c .before .before .before .before .before .before .before .before .show .ensures)
+returns-2 c =
+    viewed-whole _ (c .before .before .before .before .before .before .before .before .before .before .before .before .before .before .before .before .before .before .before .before .pre .0 .lines) (omega arith) (omega arith) (omega arith) (c .before .before .before .before .before .before .before .before .show .ensures)
 
 pub answer-spec : {M : Type 1} → statement M
 answer-spec =

@@ -6,6 +6,9 @@ use Rattle.bench_view.proofs.Collecting.{text-room, text-collects}
 use Rattle.bench_view.proofs.collect_head.Statement.{statement}
 use Rattle.bench_view.proofs.collect_head.Tie as tie
 
+mul-room : tie.Need-mul-room
+mul-room c = search needs
+
 add-room : tie.Need-add-room
 add-room c = search needs
 
@@ -13,7 +16,7 @@ room-requires : tie.Need-room-requires
 room-requires c κs = search needs
 
 put-head-requires : tie.Need-put-head-requires
-put-head-requires c κs = text-room _ _ (head-bound _ (omega arith)) (omega arith) (c .before .room .ensures .0)
+put-head-requires c κs = text-room _ _ (head-bound _ (omega arith)) (omega arith) (c .before .room .ensures)
 
 same-length : tie.Need-same-length
 same-length c = search needs
@@ -23,8 +26,8 @@ returns c =
     let u = c .before .before in
     let v = u .before .before in
     let s = v .before .before .before .before in
-    text-collects _ _ (head-bound _ (omega arith)) (omega arith) (v .room .ensures .0) (omega arith) (s .pre .1 .inside) (u .put-head .ensures)
+    text-collects _ _ (head-bound _ (omega arith)) (omega arith) (v .room .ensures) (u .put-head .ensures)
 
 pub collect-head-spec : {M : Type 1} → statement M
 collect-head-spec =
-    tie.close (tie.spec add-room room-requires put-head-requires same-length returns)
+    tie.close (tie.spec mul-room add-room room-requires put-head-requires same-length returns)

@@ -13,7 +13,7 @@ put-refused-requires : tie.Need-put-refused-requires
 put-refused-requires c κs =
     let u = c .before in
     let s = u .before .before .before in
-    text-room _ _ (refusal-bound _ _ (s .pre .0) (s .fits .value .fits)) (omega arith) (u .room .ensures .0)
+    text-room _ _ (refusal-bound _ _ (s .pre .0) (s .fits .value .fits)) (omega arith) (u .room .ensures)
 
 same-length : tie.Need-same-length
 same-length c = search needs
@@ -23,7 +23,7 @@ returns c =
     let u = c .before .before in
     let v = u .before .before in
     let s = v .before .before .before in
-    text-collects _ _ (refusal-bound _ _ (s .pre .0) (s .fits .value .fits)) (omega arith) (v .room .ensures .0) (omega arith) (s .pre .1 .inside)
+    text-collects _ _ (refusal-bound _ _ (s .pre .0) (s .fits .value .fits)) (omega arith) (v .room .ensures)
     (u .put-refused .ensures)
 
 pub collect-refusal-spec : {M : Type 1} → statement M

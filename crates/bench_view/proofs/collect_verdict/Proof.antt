@@ -13,7 +13,7 @@ put-verdict-requires : tie.Need-put-verdict-requires
 put-verdict-requires c κs =
     let u = c .before in
     let v = u .before .before .before in
-    text-room _ _ (verdict-bound _ (v .fits .w .fits)) (omega arith) (u .room .ensures .0)
+    text-room _ _ (verdict-bound _ (v .fits .w .fits)) (omega arith) (u .room .ensures)
 
 same-length : tie.Need-same-length
 same-length c = search needs
@@ -23,7 +23,7 @@ returns c =
     let u = c .before .before in
     let v = u .before .before in
     let s = v .before .before .before in
-    text-collects _ _ (verdict-bound _ (s .fits .w .fits)) (omega arith) (v .room .ensures .0) (omega arith) (s .pre .inside) (u .put-verdict .ensures)
+    text-collects _ _ (verdict-bound _ (s .fits .w .fits)) (omega arith) (v .room .ensures) (u .put-verdict .ensures)
 
 pub collect-verdict-spec : {M : Type 1} → statement M
 collect-verdict-spec = tie.close (tie.spec room-requires put-verdict-requires same-length returns)

@@ -61,7 +61,7 @@ put-width-requires c κs =
     let k = l .before .before in
     let s = k .before .before .before in
     text-room _ _ (need-holds _ _ _ (s .pre .0) (l .line-size .ensures) (v .before .entries .ensures) (v .room .ensures) _ (s .fits .w .fits) (λ i. k .before .shared-slice-known2 .given i .fits)
-    (λ i. k .shared-slice-known3 .given i .fits)) (omega (arith, few v)) (u .room2 .ensures .0)
+    (λ i. k .shared-slice-known3 .given i .fits)) (omega (arith, few v)) (u .room2 .ensures)
 
 same-length : tie.Need-same-length
 same-length c = search needs
@@ -75,7 +75,7 @@ returns c =
     let k = l .before .before in
     let s = k .before .before .before in
     text-collects _ _ (need-holds _ _ _ (s .pre .0) (l .line-size .ensures) (v .before .entries .ensures) (v .room .ensures) _ (s .fits .w .fits) (λ i. k .before .shared-slice-known2 .given i .fits)
-    (λ i. k .shared-slice-known3 .given i .fits)) (omega (arith, few v)) (u .room2 .ensures .0) (few v) (s .pre .1 .inside) (p .put-width .ensures)
+    (λ i. k .shared-slice-known3 .given i .fits)) (omega (arith, few v)) (u .room2 .ensures) (p .put-width .ensures)
 
 pub collect-width-spec : {M : Type 1} → statement M
 collect-width-spec =

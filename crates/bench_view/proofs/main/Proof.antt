@@ -11,6 +11,12 @@ use Rattle.bench_view.proofs.Made.{most-moves}
 use Rattle.bench_view.proofs.main.Statement.{statement}
 use Rattle.bench_view.proofs.main.Tie as tie
 
+helped-requires : tie.Need-helped-requires
+helped-requires c κs = tt
+
+returns : tie.Need-returns
+returns c = tt
+
 slice-aggregate-run : tie.Need-slice-aggregate-run
 slice-aggregate-run c = sym (length-replicate {A = ℕ} 65536 0)
 
@@ -42,13 +48,15 @@ run-requires c κs = (
   record { room = omega (arith, length-replicate {A = ℕ} 262144 0); inside = omega arith },
 )
 
-returns : tie.Need-returns
-returns c = tt
+returns-2 : tie.Need-returns-2
+returns-2 c = tt
 
 pub main-spec : {M : Type 1} → statement M
 main-spec =
     tie.close
     (tie.spec
+    helped-requires
+    returns
     slice-aggregate-run
     slice-aggregate-run-2
     slice-aggregate-run-3
@@ -56,4 +64,4 @@ main-spec =
     slice-aggregate-run-5
     slice-aggregate-run-6
     run-requires
-    returns)
+    returns-2)

@@ -16,7 +16,7 @@ use Rattle.bench_view.proofs.show_widths.Tie as tie
 abbrev Inv-loop : tie.InvT-loop
 Inv-loop read log list table₀ buf₀ top p₀ w₀ table buf p w =
     (w ≤ top) × (length table ≡ length table₀) × (length buf ≡ length buf₀) × Reached read
-    (w + 1) p × Collects buf₀ (p₀ .out .used) (gather (widthView read) w 1) buf (p .out .used)
+    (w + 1) p × Collects buf₀ (p₀ .out) (gather (widthView read) w 1) buf (p .out)
 
 abbrev μ-loop : tie.MeasureT-loop
 μ-loop read log list table₀ buf₀ top p₀ w₀ table buf p w = top - w

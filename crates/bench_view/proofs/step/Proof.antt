@@ -1,14 +1,22 @@
 -- `bench_view::step` meets its contract: the line that was found is answered. Assumes nothing.
 use borrow.Author.Needs.{needs}
-use Rattle.bench_view.proofs.Stepping.{stepped-none, stepped-answered}
+use mathlib.Core.Path.{refl}
+use Rattle.text_streams.proofs.Turns.{turned-inside}
+use Rattle.text_streams.proofs.Advancing.{advances-found, advances-none}
+use Rattle.bench_view.proofs.Stepping.{bench-kept}
 use Rattle.bench_view.proofs.step.Statement.{statement}
 use Rattle.bench_view.proofs.step.Tie as tie
 
-next-line-requires : tie.Need-next-line-requires
-next-line-requires c κs = search needs
+turn-requires : tie.Need-turn-requires
+turn-requires c κs = let s = c .before .before .before .before .before .before .before .before .before in (s .pre .0, s .pre .2 .inside)
 
 answer-requires : tie.Need-answer-requires
-answer-requires c κs = search needs
+answer-requires c κs =
+    let t = c .before .before .before .before .before .before .before .before .before .before .before .before .before in
+    let s = t .before .before .before .before .before .before .before .before .before .before in (
+      bench-kept (s .pre .1) (t .turn .kept .1 .0) refl refl refl,
+      record { room = s .pre .2 .room; inside = turned-inside (t .turn .ensures) (s .pre .2 .inside) },
+    )
 
 same-length : tie.Need-same-length
 same-length c = search needs
@@ -30,10 +38,11 @@ same-length-6 c = search needs
 
 returns : tie.Need-returns
 returns c =
-    let u = c .before .before .before .before .before .before .before .before in
-    let v = u .before .before .before .before .before .before .before .before .before .before .before .before in
-    let s = v .before .before .before .before .before .before .before .before .before .before .before in
-    stepped-answered (v .next-line .ensures) (s .pre .0) (s .good .0 .0) (u .answer .ensures)
+    let a = c .before .before .before .before .before .before .before .before in
+    let t = a .before .before .before .before .before .before .before .before .before .before .before .before .before .before in
+    let s = t .before .before .before .before .before .before .before .before .before .before in
+    advances-found _ _ _ _ _ (s .pre .0) (t .turn .ensures) (c .before .before .before .before .before .before .before .before .before .before .before .before .before .before .before .before .if1 .taken) (a .answer .ensures .inside)
+    (λ x k. a .answer .ensures .text x k .adds)
 
 same-length-7 : tie.Need-same-length-7
 same-length-7 c = search needs
@@ -41,17 +50,19 @@ same-length-7 c = search needs
 same-length-8 : tie.Need-same-length-8
 same-length-8 c = search needs
 
+same-length-9 : tie.Need-same-length-9
+same-length-9 c = search needs
+
 returns-2 : tie.Need-returns-2
 returns-2 c =
-    let u = c .before .before .before .before .before .before in
-    let s = u .before .before .before .before .before .before .before .before .before .before .before in
-    stepped-none (u .next-line .ensures) (c .if1 .left) (s .pre .2 .inside)
+    let t = c .before .before .before .before .before .before in
+    advances-none _ _ _ _ _ (t .before .before .before .before .before .before .before .before .before .before .pre .0) (t .turn .ensures) (c .if1 .left)
 
 pub step-spec : {M : Type 1} → statement M
 step-spec =
     tie.close
     (tie.spec
-    next-line-requires
+    turn-requires
     answer-requires
     same-length
     same-length-2
@@ -62,4 +73,5 @@ step-spec =
     returns
     same-length-7
     same-length-8
+    same-length-9
     returns-2)

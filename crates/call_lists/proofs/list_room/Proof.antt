@@ -1,5 +1,6 @@
 -- `call_lists::list_room` meets its contract: the partition's arrays stand for the read at width 1. Assumes nothing.
-use Rattle.partition.proofs.Fresh.{zeros, scratch-zeros}
+use Rattle.step_refine.proofs.Zeros.{zeros-clean}
+use Rattle.partition.proofs.Fresh.{scratch-zeros}
 use borrow.Author.Needs.{needs}
 use Rattle.call_lists.proofs.list_room.Statement.{statement}
 use Rattle.call_lists.proofs.list_room.Tie as tie
@@ -8,7 +9,7 @@ fresh-requires : tie.Need-fresh-requires
 fresh-requires c κs = search needs
 
 all-lines-requires : tie.Need-all-lines-requires
-all-lines-requires c κs = (c .before .before .before .before .before .before .before .before .before .before .before .before .before .before .before .before .before .before .before .before .before .before .before .before .before .before .fresh .ensures .stands .held, scratch-zeros, zeros .long)
+all-lines-requires c κs = (c .before .before .before .before .before .before .before .before .before .before .before .before .before .before .before .before .before .before .before .before .before .before .before .before .before .before .fresh .ensures .stands .held, scratch-zeros, zeros-clean .long)
 
 same-length : tie.Need-same-length
 same-length c = search needs

@@ -2,7 +2,7 @@
 use native.Mathlib.Omega.{arith}
 use mathlib.Core.Path.{sym}
 use Rattle.step_slots.proofs.Laws.{view-length}
-use Rattle.step_renew.proofs.Ends.{ready-placed, named-next, named-clean}
+use Rattle.step_renew.proofs.Ends.{ready-placed, named-next, named-bare, named-clean}
 use borrow.Author.Needs.{needs}
 use Rattle.partition.proofs.settle.Statement.{statement}
 use Rattle.partition.proofs.settle.Tie as tie
@@ -28,9 +28,11 @@ returns : tie.Need-returns
 returns c =
     let s = c .before .before .before .before .before .before .before .before .before .before .before .before .before .before .before .before .before .before .before .before .before .before in
     let N = c .name-all .ensures in
+    let table-long = view-length (s .args .n) (s .args .name .now) (omega (arith, s .pre .0 .few, s .pre .0 .name-long)) in
     record {
       name-long = N .name-long;
-      names = named-next _ _ _ _ _ _ (s .pre .4) N _ (sym (view-length _ _ (omega (arith, s .pre .0 .few, s .pre .0 .name-long)))) (s .pre .0 .few) (c .before .before .before .renew-all .ensures);
+      names = named-next _ _ _ _ _ _ (s .pre .4) N _ (sym table-long) (s .pre .0 .few) (c .before .before .before .renew-all .ensures);
+      name-beyond = λ i a b. named-bare _ _ _ _ _ _ (s .pre .4) N (s .pre .0 .lined) (c .before .before .before .renew-all .ensures) i (omega (arith, a, table-long)) b;
       flags = c .before .before .before .before .before .flag-all .ensures .0;
       marks = c .before .before .before .before .before .flag-all .ensures .1;
       sized = c .before .before .before .before .before .before .before .before .before .before .before .before .before .before .before .before .count-all .ensures .0;

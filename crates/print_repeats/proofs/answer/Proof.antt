@@ -1,6 +1,5 @@
 -- `print_repeats::answer` meets its contract: the text is written to the rest of the buffer, from its place on. Assumes nothing.
 use native.Mathlib.Omega.{arith}
-use Rattle.print_repeats.specs.Output.{textPlace}
 use Rattle.print_repeats.proofs.Collecting.{place-inside, printable, text-inside, collected}
 use borrow.Author.Needs.{needs}
 use Rattle.print_repeats.proofs.answer.Statement.{statement}
@@ -19,40 +18,36 @@ room-requires : tie.Need-room-requires
 room-requires c κs = search needs
 
 sub-write-answer : tie.Need-sub-write-answer
-unfolding textPlace
 sub-write-answer c =
     let r = c .before in
     let a = r .before .before .before .before in
     let s = a .before .before .before .before .before in
-    omega (arith, place-inside (a .listed .ensures) (s .pre .1) (a .listed .kept .1 .1 .0) (r .room .ensures .0))
+    omega (arith, place-inside (a .listed .ensures) (s .pre .1) (a .listed .kept .1 .1 .0) (r .room .ensures))
 
 part-write-answer-start : tie.Need-part-write-answer-start
-unfolding textPlace
 part-write-answer-start c =
     let r = c .before in
     let a = r .before .before .before .before in
     let s = a .before .before .before .before .before in
-    omega (arith, place-inside (a .listed .ensures) (s .pre .1) (a .listed .kept .1 .1 .0) (r .room .ensures .0))
+    omega (arith, place-inside (a .listed .ensures) (s .pre .1) (a .listed .kept .1 .1 .0) (r .room .ensures))
 
 part-write-answer-end : tie.Need-part-write-answer-end
 part-write-answer-end c = search needs
 
 write-answer-requires : tie.Need-write-answer-requires
-unfolding textPlace
 write-answer-requires c κs =
     let r = c .before .before in
     let a = r .before .before .before .before in
     let s = a .before .before .before .before .before in
-    printable (a .listed .ensures) (s .pre .1) (a .listed .kept .1 .1 .0) (r .room .ensures .0)
+    printable (a .listed .ensures) (s .pre .1) (a .listed .kept .1 .1 .0) (r .room .ensures)
 
 add-t16 : tie.Need-add-t16
-unfolding textPlace
 add-t16 c =
     let r = c .before .before .before .before .before in
     let a = r .before .before .before .before in
     let s = a .before .before .before .before .before in
     let w = c .before .before .write-answer in
-    let q = text-inside (a .listed .ensures) (s .pre .1) (a .listed .kept .1 .1 .0) (r .room .ensures .0) (w .ensures) (w .kept .1 .1 .1 .0) in
+    let q = text-inside (a .listed .ensures) (s .pre .1) (a .listed .kept .1 .1 .0) (r .room .ensures) (w .ensures) (w .kept .1 .1 .1 .0) in
     omega (arith, s .good .1 .1 .1 .0 .0)
 
 same-length : tie.Need-same-length
@@ -62,15 +57,12 @@ same-length-2 : tie.Need-same-length-2
 same-length-2 c = search needs
 
 returns : tie.Need-returns
-unfolding textPlace
 returns c =
     let r = c .before .before .before .before .before in
     let a = r .before .before .before .before in
     let s = a .before .before .before .before .before in
-    let w = c .before .before .write-answer in (
-      collected (a .listed .ensures) (s .pre .1) (a .listed .kept .1 .1 .0) (r .room .ensures .0) (w .ensures) (w .kept .1 .1 .1 .0) _,
-      r .room .ensures .1,
-    )
+    let w = c .before .before .write-answer in
+    collected (a .listed .ensures) (s .pre .1) (a .listed .kept .1 .1 .0) (r .room .ensures) (w .ensures) (w .kept .1 .1 .1 .0) _
 
 pub answer-spec : {M : Type 1} → statement M
 answer-spec =

@@ -7,6 +7,12 @@ use borrow.Author.Needs.{needs}
 use Rattle.print_repeats.proofs.main.Statement.{statement}
 use Rattle.print_repeats.proofs.main.Tie as tie
 
+helped-requires : tie.Need-helped-requires
+helped-requires c κs = search needs
+
+returns : tie.Need-returns
+returns c = search needs
+
 slice-aggregate-run : tie.Need-slice-aggregate-run
 slice-aggregate-run c = search needs
 
@@ -23,16 +29,18 @@ run-requires : tie.Need-run-requires
 unfolding rows lineSize
 run-requires c κs = (lit≤ tt, record { room = lit≤ tt; inside = lit≤ tt }, refl)
 
-returns : tie.Need-returns
-returns c = search needs
+returns-2 : tie.Need-returns-2
+returns-2 c = search needs
 
 pub main-spec : {M : Type 1} → statement M
 main-spec =
     tie.close
     (tie.spec
+    helped-requires
+    returns
     slice-aggregate-run
     slice-aggregate-run-2
     slice-aggregate-run-3
     slice-aggregate-run-4
     run-requires
-    returns)
+    returns-2)

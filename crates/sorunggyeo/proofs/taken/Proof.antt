@@ -1,4 +1,5 @@
 -- `sorunggyeo::taken` meets its contract, case by case. Assumes nothing.
+use Rattle.words.specs.Answers.{entrySays}
 use Rattle.sorunggyeo.specs.Plain.{entryMove, plainMove}
 use borrow.Author.Needs.{needs}
 use Rattle.sorunggyeo.proofs.taken.Statement.{statement}
@@ -11,12 +12,12 @@ enum-told : tie.Need-enum-told
 enum-told c = search needs
 
 returns : tie.Need-returns
-unfolding plainMove entryMove
-returns c = cc
+unfolding plainMove entryMove entrySays
+returns c = rw (c .before .e .given .1)
 
 returns-2 : tie.Need-returns-2
-unfolding plainMove entryMove
-returns-2 c = cc
+unfolding plainMove entryMove entrySays
+returns-2 c = rw (c .enum-told .given .1)
 
 pub taken-spec : {M : Type 1} → statement M
 taken-spec = tie.close (tie.spec enum-known-e enum-told returns returns-2)

@@ -51,7 +51,7 @@ returns c =
     let e : c .before .loop .i ≡ s .args .n = omega arith in
     let C = rw e at (c .before .loop .inv .1) in
     let long = view-length (s .args .n) (s .args .name .now) (omega (arith, s .pre .0, s .pre .1)) in
-    (counted-sized _ _ _ _ _ long (s .pre .0) C, counted-flagged _ _ _ _ _ long (s .pre .0) C (s .pre .2), C .marked)
+    (counted-sized _ _ _ _ _ long (s .pre .0) C (s .pre .2), counted-flagged _ _ _ _ _ long (s .pre .0) C (s .pre .2), C .marked)
 
 pub count-letters-spec : {M : Type 1} → statement M
 count-letters-spec =

@@ -65,7 +65,7 @@ returns c =
     let l = c .before .loop in
     let e : 128 * l .q + 1 ≡ 1025 = omega (arith, l .inv .2, c .loop-test .left) in
     let A = passed-all _ _ _ _ _ (s .args .n) _ (names s) (s .pre .0) (s .pre .5) (rw e at (l .inv .0)) in
-    (l .inv .0 .grown .long, A .0, A .1, A .2, l .inv .1 .long)
+    (l .inv .0 .grown .long, A .0, A .1, A .2, l .inv .1)
 
 pub push-all-spec : {M : Type 1} → statement M
 push-all-spec =

@@ -17,7 +17,7 @@ abbrev μ-loop : tie.MeasureT-loop
 μ-loop prev₀ dist₀ head₀ after₀ before₀ last name que n m q₀ prev dist head after before q = m - q
 
 loop-holds : tie.Need-loop-holds Inv-loop μ-loop
-loop-holds c = (mid-start _ _ _ _ _ (c .pre .0) (c .pre .4) _ _ (c .pre .1) (c .pre .2), c .pre .3)
+loop-holds c = (mid-start _ _ _ _ _ (c .pre .0) (c .pre .4) _ _ (c .pre .1) (c .pre .2) (c .pre .5), c .pre .3)
 
 add-q : tie.Need-add-q Inv-loop μ-loop
 add-q c = omega (arith, c .loop-test .taken, c .before .before .pre .0 .few, c .before .before .pre .0 .queued)

@@ -2,6 +2,7 @@
 use mathlib.Core.Path.{_∙_}
 use native.Mathlib.Omega.{arith}
 use Rattle.text_streams.proofs.Placing.{place-after, place-front}
+use Rattle.text_streams.proofs.Telling.{adds-none}
 use borrow.Author.Needs.{needs}
 use Rattle.text_streams.proofs.room.Statement.{statement}
 use Rattle.text_streams.proofs.room.Tie as tie
@@ -10,7 +11,7 @@ sub-if1 : tie.Need-sub-if1
 sub-if1 c = search needs
 
 returns : tie.Need-returns
-returns c = (place-after _ _ _ (omega arith), λ e. e)
+returns c = (place-after _ _ _ (omega arith), adds-none _ _)
 
 flush-requires : tie.Need-flush-requires
 flush-requires c κs = search needs

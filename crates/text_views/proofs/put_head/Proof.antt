@@ -19,9 +19,9 @@ put-number-requires c κs =
     let s = u .before .before .before .before .before in
     length-room _ (s .pre) (u .put-word .ensures)
 
-put-word-requires-2 : tie.Need-put-word-requires-2
+put-bytes-requires : tie.Need-put-bytes-requires
 unfolding ascii
-put-word-requires-2 c κs =
+put-bytes-requires c κs =
     let u = c .before .before .before in
     let v = u .before .before .before .before in
     let s = v .before .before .before .before .before in
@@ -30,14 +30,14 @@ put-word-requires-2 c κs =
 slice-aggregate-put-word-2 : tie.Need-slice-aggregate-put-word-2
 slice-aggregate-put-word-2 c = search needs
 
-put-word-requires-3 : tie.Need-put-word-requires-3
+put-word-requires-2 : tie.Need-put-word-requires-2
 unfolding ascii
-put-word-requires-3 c κs =
+put-word-requires-2 c κs =
     let u = c .before .before .before .before in
     let v = u .before .before .before .before in
     let w = v .before .before .before .before in
     let s = w .before .before .before .before .before in
-    head-end-room _ (s .pre) (w .put-word .ensures) (v .put-number .ensures) (u .put-word2 .ensures)
+    head-end-room _ (s .pre) (w .put-word .ensures) (v .put-number .ensures) (u .put-bytes .ensures)
 
 same-length : tie.Need-same-length
 same-length c = search needs
@@ -50,7 +50,7 @@ returns c =
     let w = v .before .before .before .before in
     let x = w .before .before .before .before in
     let s = x .before .before .before .before .before in
-    head-puts _ (s .pre) (x .put-word .ensures) (w .put-number .ensures) (v .put-word2 .ensures) (u .put-word3 .ensures)
+    head-puts _ (s .pre) (x .put-word .ensures) (w .put-number .ensures) (v .put-bytes .ensures) (u .put-word2 .ensures)
 
 pub put-head-spec : {M : Type 1} → statement M
 put-head-spec =
@@ -59,8 +59,8 @@ put-head-spec =
     slice-aggregate-put-word
     put-word-requires
     put-number-requires
-    put-word-requires-2
+    put-bytes-requires
     slice-aggregate-put-word-2
-    put-word-requires-3
+    put-word-requires-2
     same-length
     returns)

@@ -16,7 +16,7 @@ returns c =
     let s = c .before in
     let p = s .args .self in
     let e = step-still (p .width) (groups p) (smallOnes p) (omega (arith, c .if1 .taken, held-long _ _ _ _ _ _ _ _ _ _ (s .pre .held))) in
-    (s .pre, refl, sym (e .0), sym (e .1), sym (e .2), sym (e .3))
+    (s .pre, refl, sym (e .0), sym (e .1), sym (e .2), sym (e .3), λ h. refl)
 
 advance-requires : tie.Need-advance-requires
 advance-requires c κs = (c .before .before .before .before .before .before .before .before .before .before .before .before .before .before .before .before .before .before .before .before .before .before .before .before .before .pre .held, scratch-zeros)
@@ -30,13 +30,15 @@ returns-2 c =
     let H = s .pre .held in
     let A = c .advance .ensures in
     let p = s .args .self in
-    let e = step-on (p .width) (groups p) (smallOnes p) (omega (arith, c .before .before .before .before .before .before .before .before .before .before .before .before .before .before .before .before .before .before .before .before .before .before .before .before .before .if1 .left, held-long _ _ _ _ _ _ _ _ _ _ H)) (H .least) in (
+    let l = c .before .before .before .before .before .before .before .before .before .before .before .before .before .before .before .before .before .before .before .before .before .before .before .before .before .if1 .left in
+    let e = step-on (p .width) (groups p) (smallOnes p) (omega (arith, l, held-long _ _ _ _ _ _ _ _ _ _ H)) (H .least) in (
       record { wide = omega arith; held = A .held },
       refl,
       add-one _ ∙ sym (e .0),
       A .names ∙ sym (e .1),
       A .flags ∙ ap (partsSmall (groups p)) (A .names) ∙ sym (e .2),
       A .moves ∙ sym (e .3),
+      λ h. absurd (omega (arith, h, l)),
     )
 
 pub step-spec : {M : Type 1} → statement M

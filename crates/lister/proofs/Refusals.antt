@@ -1,0 +1,97 @@
+-- Document 01, "What a call says no to", as a table for each call. Its rows are the numbers from 0, which is success; each says when its number
+-- is given: its own rule holds, and none before it in the order does.
+use Prim.Native.Nat.{ℕ, zero, suc, _*_, _≤_, _<_}
+use mathlib.Core.Path.{_≡_}
+use mathlib.Core.Logic.{_⊎_, _↔_}
+use mathlib.Core.Bool.{true, false}
+use mathlib.Core.List.{List, [], _∷_}
+use lib.ListN.{length, replicate}
+use Rattle.words.specs.Range.{bit}
+use Rattle.words.specs.Rows.{rows}
+use Rattle.words.specs.Reads.{most}
+use Rattle.words.specs.Repeats.{repeats}
+use Rattle.words.specs.Lists.{lineSize, lines, lineCount, inMode}
+use Rattle.words.specs.Groups.{table}
+use Rattle.words.specs.Moves.{topOf, moveSize, log, M}
+use Rattle.words.specs.Replay.{replay}
+use Rattle.words.specs.Logs.{firstBad, wellFormed}
+use Rattle.words.specs.Answers.{Answer, refusal}
+use Rattle.words.proofs.Afterwards.{front}
+
+-- one row: when its number is given, what is returned with it, and the lent slice afterwards
+pub record Row : Type 1 where
+  pub when : Type 0
+  pub returns : ℕ
+  pub leaves : List ℕ
+
+abbrev pub rowOf : Type 0 → ℕ → List ℕ → Row
+rowOf t v s = record { when = t; returns = v; leaves = s }
+
+-- a number that a call never gives
+abbrev pub never : Row
+never = rowOf ⊥ 0 []
+
+-- the row of number k; a number after the last row is never given
+abbrev pub rowAt : List Row → ℕ → Row
+rowAt [] k = never
+rowAt (r ∷ t) zero = r
+rowAt (r ∷ t) (suc k) = rowAt t k
+
+-- where row k says so, the answer is number k with its value, and the slice is as the row leaves it
+abbrev pub Follows : List Row → Answer → List ℕ → Type 0
+Follows t a s = (k : ℕ) → rowAt t k .when → (a ≡ refusal k (rowAt t k .returns)) × (s ≡ rowAt t k .leaves)
+
+-- an answer and a slice go by a table: each number is given exactly when its row says, with its value and its slice
+pub record By (t : List Row) (a : Answer) (s : List ℕ) : Type 0 where
+  pub exactly : (k : ℕ) → (a .number ≡ k) ↔ rowAt t k .when
+  pub gives : Follows t a s
+
+-- the list of a read x in a mode, with c lines
+abbrev pub listRows : List ℕ → ℕ → List ℕ → List Row
+listRows x mode out =
+    let c = lineCount x (inMode x mode) in
+    rowOf ((length x ≤ most) × (mode ≤ 1) × (c ≤ rows lineSize out)) c (front (lines x (inMode x mode)) out)
+    ∷ rowOf (most < length x) (length x) out
+    ∷ rowOf ((length x ≤ most) × (1 < mode)) mode out
+    ∷ rowOf ((length x ≤ most) × (mode ≤ 1) × (rows lineSize out < c)) c (replicate (length out) 0)
+    ∷ []
+
+-- the group table at a width
+abbrev pub tableRows : List ℕ → ℕ → List ℕ → List Row
+tableRows x w out =
+    rowOf ((length x ≤ most) × (1 ≤ w) × (w ≤ length x) × (length x ≤ length out)) (length x) (front (table x w) out)
+    ∷ rowOf (most < length x) (length x) out
+    ∷ rowOf ((length x ≤ most) × ((w < 1) ⊎ (length x < w))) w out
+    ∷ never
+    ∷ rowOf ((length x ≤ most) × (1 ≤ w) × (w ≤ length x) × (length out < length x)) (length x) out
+    ∷ []
+
+-- the log
+abbrev pub logRows : List ℕ → List ℕ → List Row
+logRows x out =
+    rowOf ((length x ≤ most) × (moveSize * M (length x) ≤ length out)) (rows moveSize (log x)) (front (log x) out)
+    ∷ rowOf (most < length x) (length x) out
+    ∷ never
+    ∷ never
+    ∷ rowOf ((length x ≤ most) × (length out < moveSize * M (length x))) (moveSize * M (length x)) out
+    ∷ []
+
+-- w is a width up to which a log can be replayed, for a read of n bytes
+abbrev pub ReplayWidth : ℕ → ℕ → Type 0
+ReplayWidth n w = (1 ≤ n) × (1 ≤ w) × (w ≤ topOf n)
+
+-- the replay of a log l up to a width
+abbrev pub replayRows : List ℕ → List ℕ → ℕ → List ℕ → List Row
+replayRows x l w out =
+    let n = length x in
+    rowOf ((n ≤ most) × ReplayWidth n w × (n ≤ length out) × (wellFormed n l ≡ true)) n (front (replay x l w) out)
+    ∷ rowOf (most < n) n out
+    ∷ rowOf ((n ≤ most) × ((n ≡ 0) ⊎ ((w < 1) ⊎ (topOf n < w)))) w out
+    ∷ never
+    ∷ rowOf ((n ≤ most) × ReplayWidth n w × (length out < n)) n out
+    ∷ rowOf ((n ≤ most) × ReplayWidth n w × (n ≤ length out) × (wellFormed n l ≡ false)) (firstBad n l) out
+    ∷ []
+
+-- the claim check, which has no slice
+abbrev pub claimRows : List ℕ → ℕ → ℕ → ℕ → List Row
+claimRows x i p e = rowOf (length x ≤ most) (bit (repeats x i p e)) [] ∷ rowOf (most < length x) (length x) [] ∷ []
