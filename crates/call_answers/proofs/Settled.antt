@@ -1,0 +1,22 @@
+-- Two results x and y at the arguments a, both allowed by the contract of the function as the source states it, are equal. Assumes nothing.
+use mathlib.Core.Path.{_≡_, sym, _∙_}
+use Rattle.call_answers.proofs.listed.Reads as listed
+use Rattle.call_answers.proofs.tabled.Reads as tabled
+use Rattle.call_answers.proofs.logged.Reads as logged
+use Rattle.call_answers.proofs.replayed.Reads as replayed
+use Rattle.call_answers.proofs.claimed.Reads as claimed
+
+pub listed-settled : (κs : _) (a : _) (x y : _) (e f : _) → listed.Learnt κs a x e → listed.Learnt κs a y f → x ≡ y
+listed-settled κs a x y e f p q = p ∙ sym q
+
+pub tabled-settled : (κs : _) (a : _) (x y : _) (e f : _) → tabled.Learnt κs a x e → tabled.Learnt κs a y f → x ≡ y
+tabled-settled κs a x y e f p q = p ∙ sym q
+
+pub logged-settled : (κs : _) (a : _) (x y : _) (e f : _) → logged.Learnt κs a x e → logged.Learnt κs a y f → x ≡ y
+logged-settled κs a x y e f p q = p ∙ sym q
+
+pub replayed-settled : (κs : _) (a : _) (x y : _) (e f : _) → replayed.Learnt κs a x e → replayed.Learnt κs a y f → x ≡ y
+replayed-settled κs a x y e f p q = p ∙ sym q
+
+pub claimed-settled : (κs : _) (a : _) (x y : _) (e f : _) → claimed.Learnt κs a x e → claimed.Learnt κs a y f → x ≡ y
+claimed-settled κs a x y e f p q = p ∙ sym q
