@@ -1,33 +1,28 @@
 -- The text of an answer is that of the lines of the read, whatever stands behind them in the slice. A success says no more lines than the
 -- slice has. Assumes nothing.
 use Prim.Native.Nat.{ℕ, zero, suc, _+_, _*_, _^_, _≤_, _<_}
-use mathlib.Core.Path.{_≡_, refl, sym, ap, _∙_}
+use mathlib.Core.Path.{_≡_, refl, sym}
 use mathlib.Core.Bool.{Bool, true, false, not}
 use mathlib.Core.List.{List, _++_}
 use native.Mathlib.Omega.{arith}
-use native.Mathlib.Nat.{le-trans, mul-div-le, mul-le-mul-left}
+use native.Mathlib.Nat.{le-trans, mul-le-mul-left}
 use lib.ListN.{length, take}
 use lib.Dec.{ltb}
 use borrow.Author.Tests.{ltb-false}
 use Rattle.words.specs.Range.{gather}
 use Rattle.words.specs.Reads.{most}
-use Rattle.words.specs.Rows.{rows, row}
+use Rattle.words.specs.Rows.{rows}
 use Rattle.words.specs.Lists.{lineSize, lines, lineCount, inMode}
 use Rattle.words.specs.Logs.{within}
 use Rattle.words.specs.Answers.{Answer, success, refusal}
 use Rattle.words.specs.Calls.{refuse, tooLong, afterwards, listAfterwards, listAnswer, listLeaves}
 use Rattle.words.proofs.Rows.{row-before}
 use Rattle.words.proofs.Lists.{lines-full}
+use Rattle.row_cells.proofs.Adding.{room-fits}
 use Rattle.text_answers.specs.Texts.{lineText, linesText, listText, lineTotal, answerText}
-use Rattle.text_streams.specs.Lines.{counted, Keeps}
-use Rattle.text_streams.specs.Heard.{heard}
 use Rattle.text_streams.proofs.Keeping.{keeps-whole}
 use Rattle.text_streams.proofs.Hearing.{heard-long, heard-short}
 use Rattle.print_repeats.specs.Output.{printed, Heard}
-
-rows-inside : (c : ℕ) (l : List ℕ) → c * rows c l ≤ length l
-unfolding rows
-rows-inside c l = mul-div-le (length l) c
 
 -- the text of lines that stand in front
 front-text : (made rest : List ℕ) (d j : ℕ) → lineSize * (j + d) ≤ length made → gather (lineText (made ++ rest)) d j ≡ gather (lineText made) d j
@@ -59,9 +54,7 @@ module _ (x list : List ℕ) where
       go true other short e z = absurd (omega (arith, z))
       go false true short e z = absurd (omega (arith, z))
       go false false true e z = absurd (omega (arith, z))
-      go false false false e z =
-          let enough : count ≤ rows lineSize list = ltb-false _ _ e in
-          omega (arith, rows-inside lineSize list, mul-le-mul-left lineSize enough)
+      go false false false e z = room-fits lineSize list count (ltb-false _ _ e)
 
   count-full : lineSize * count ≤ length (lines x (inMode x 0))
   unfolding lineCount

@@ -1,13 +1,13 @@
 -- A turn of a program: with a line found and its text made, or with none found, the program goes on or has stopped. Assumes nothing.
-use Prim.Native.Nat.{ℕ, suc, _^_, _≤_, _<_}
+use Prim.Native.Nat.{ℕ, _≤_, _<_}
 use mathlib.Core.Path.{_≡_, refl, sym, ap, _∙_}
-use mathlib.Core.Logic.{_⊎_, inl, inr, ⊎-elim}
+use mathlib.Core.Logic.{_⊎_, inl, ⊎-elim}
 use mathlib.Core.Bool.{Bool, true, false, false≢true}
 use mathlib.Core.List.{List, [], _∷_}
 use native.Mathlib.Omega.{arith}
 use borrow.Author.Tests.{ltb-true, ltb-false, eq-eqb, ne-eqb}
 use lib.ListN.{length}
-use lib.Dec.{ltb, eqb}
+use lib.Dec.{ltb}
 use Rattle.words.proofs.Tests.{clash}
 use Rattle.text_pipes.proofs.Accounts.{clamped-inside}
 use Rattle.io.specs.Counts.{clamped}
@@ -16,7 +16,6 @@ use Rattle.text_streams.specs.Cuts.{Within, stopped, Cut, Filled, Over, 
 use Rattle.text_streams.specs.Outputs.{Adds}
 use Rattle.text_streams.specs.Runs.{going, Stands, Stopped, Advances}
 use Rattle.text_streams.specs.declared.Out.{Out}
-use Rattle.text_streams.specs.declared.Source.{Source}
 use Rattle.text_streams.specs.declared.State.{State}
 use Rattle.text_streams.specs.declared.Next.{Next}
 use Rattle.text_streams.proofs.Pending.{cut-within}

@@ -1,25 +1,22 @@
 -- A line answered as the read that it is: a line over the limit is refused by its length alone, and of any other line every byte is kept.
 -- Assumes nothing.
 use Prim.Native.Nat.{ℕ, _-_, _*_, _^_, _≤_, _<_}
-use mathlib.Core.Path.{_≡_, refl, sym, ap, _∙_}
+use mathlib.Core.Path.{_≡_, sym, _∙_}
 use mathlib.Core.Logic.{⊎-elim}
-use mathlib.Core.Bool.{true, false}
 use mathlib.Core.List.{List}
 use native.Mathlib.Omega.{arith}
 use borrow.Author.Tests.{lt-ltb, le-ltb}
-use lib.ListN.{length, length-replicate, take}
-use lib.Dec.{ltb}
+use lib.ListN.{length, length-replicate}
 use Rattle.words.specs.Reads.{most}
 use Rattle.words.specs.Rows.{rows}
 use Rattle.words.specs.Lists.{lineSize}
-use Rattle.words.specs.Answers.{Answer, refusal}
+use Rattle.words.specs.Answers.{refusal}
 use Rattle.words.specs.Calls.{refuse, tooLong, listAnswer}
 use Rattle.words.proofs.Tests.{lt-or-ge}
 use Rattle.words.proofs.Rows.{rows-times}
 use Rattle.words.proofs.LineLayout.{line-some}
 use Rattle.text_streams.specs.Lines.{counted, Keeps}
 use Rattle.text_streams.specs.Heard.{roomFor, heard}
-use Rattle.text_streams.proofs.Keeping.{keeps-whole}
 
 -- an answer knows a slice by its rows
 answer-room : (x : List ℕ) (mode : ℕ) (list made : List ℕ) → rows lineSize list ≡ rows lineSize made → listAnswer x mode list ≡ listAnswer x mode made

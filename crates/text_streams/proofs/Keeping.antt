@@ -122,11 +122,6 @@ keeps-more {x} {line} {len} part b k =
         let w : List ℕ = x ++ part in
         rw (kept-opens line len part, e, n) (take-both (length line) (counted (length w)) w (drop (length w) line) b refl)
 
--- a line that can be counted
-pub keeps-size : {x line : List ℕ} {len : ℕ} → Keeps x len line → length x < 2 ^ 64 → len ≡ length x
-unfolding counted
-keeps-size k b = omega (arith, k .size)
-
 -- a line that the line buffer holds whole
 pub keeps-whole : {x line : List ℕ} {len : ℕ} → Keeps x len line → len < length line → length line < 2 ^ 64 → x ≡ take len line
 unfolding counted

@@ -5,12 +5,12 @@ use mathlib.Core.Logic.{_⊎_, inl, inr, ⊎-elim}
 use mathlib.Core.Bool.{Bool, true, false, cond}
 use mathlib.Core.List.{List, [], _∷_, _++_, append-assoc, append-nil}
 use native.Mathlib.Omega.{arith}
-use lib.ListN.{length, length-append, take}
+use lib.ListN.{length, length-append}
 use lib.IntN.{ℤ}
-use lib.Dec.{ltb, eqb}
+use lib.Dec.{eqb}
 use Rattle.io.specs.Counts.{clamped}
 use Rattle.text_puts.specs.Numbers.{newline}
-use Rattle.text_pipes.specs.Accounts.{Call, moved, Account, Read, Ended, Unread}
+use Rattle.text_pipes.specs.Accounts.{Call, moved, Read, Ended, Unread}
 use Rattle.text_pipes.proofs.Accounts.{account-none, account-call, account-more}
 use Rattle.text_streams.specs.Lines.{lastLine, linesOf, Plain, Keeps}
 use Rattle.text_streams.specs.Cuts.{chunkOf, Within, pending, endOf, restOf, filled}

@@ -38,8 +38,8 @@ pub record Stands (text : List ℕ → List ℕ) (k : ℕ) (input line buf : Lis
   pub lines : (more : List ℕ) → linesOf (bytes ++ more) ≡ answered ++ linesOf (x ++ (pending input (s .source) ++ more))
   pub told : Told (texts text answered) buf (s .out)
 
--- why a program stops with lines left: none is left, since the input ended; or a read failed behind the last whole line; or a write failed; or
--- the loop had all its turns
+-- why a program stops, and which lines are then left: none, since the input ended; at most the one behind which a read failed; any, since a write
+-- failed or the loop had all its turns
 abbrev pub Stop : List (List ℕ) → Out → ℕ → Type 0
 Stop left o k = ((left ≡ []) × Ended) ⊎ ((length left ≤ 1) × Unread) ⊎ (o .ok ≡ false) ⊎ (2 ^ 64 - 1 ≤ k)
 

@@ -9,7 +9,7 @@ use native.Mathlib.Omega.{arith}
 use lib.ListN.{length, getD, drop, length-append, length-take}
 use lib.Dec.{eqb, leb}
 use borrow.Author.Tests.{eqb-true, ne-eqb}
-use Rattle.words.specs.Range.{sum, bit, count, gather}
+use Rattle.words.specs.Range.{sum, bit, count}
 use Rattle.words.specs.Rows.{rows, row}
 use Rattle.words.specs.Reads.{most, at}
 use Rattle.words.specs.Groups.{size}

@@ -1,7 +1,6 @@
 -- `text_pipes::ask` meets its contract: the last read call is the one that it speaks of. Assumes nothing.
 use mathlib.Core.Path.{_≡_, refl, ap, _∙_}
 use lib.ListN.{length}
-use native.Mathlib.Omega.{arith}
 use lib.IntN.{ℤ, negsuc}
 use mir.Syntax.{w64}
 use mir.Facts.{toZ-ofZ}

@@ -1,6 +1,5 @@
 -- `text_pipes::put` meets its contract: the last write call is the one that it speaks of. Assumes nothing.
-use mathlib.Core.Path.{_≡_, refl, ap, _∙_}
-use native.Mathlib.Omega.{arith}
+use mathlib.Core.Path.{refl, ap, _∙_}
 use lib.IntN.{ℤ, negsuc}
 use lib.ListN.{length}
 use denote.Ref.{now}
