@@ -11,7 +11,7 @@ use row_cells::cell;
 use row_cells::count;
 use row_lines::is_line;
 use row_lines::line_size;
-use step_slots::wide;
+use slots::wide;
 
 // the first row of c numbers, from a row on, whose number j is not w: where a log's width ends, or a list's period
 pub fn part_end(list: &[u16], c: usize, j: usize, w: usize, from: usize) -> usize

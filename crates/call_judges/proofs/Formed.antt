@@ -1,7 +1,6 @@
 -- A log is well formed exactly if the entries before its first bad one are all of it, and then every entry is good. Assumes nothing.
 use Prim.Native.Nat.{ℕ, _*_, _/_, _%_, _≤_}
 use mathlib.Core.Path.{_≡_, sym, ap, _∙_}
-use mathlib.Core.Logic.{by-cases}
 use mathlib.Core.Bool.{true, not}
 use mathlib.Core.List.{List}
 use native.Mathlib.Nat.{div-add-mod, mul-mod-right}

@@ -17,8 +17,8 @@ use Rattle.words.specs.Logs.{within, before, moved, good, firstBad}
 use Rattle.words.proofs.Tests.{either, and-left, and-right, and-both, or-cases, not-both, fails}
 use Rattle.words.proofs.Ranges.{every-at, every-of}
 use Rattle.words.proofs.Searches.{Missed, first-hit, first-ended}
-use Rattle.step_slots.specs.Slots.{put}
-use Rattle.step_slots.proofs.Laws.{put-length, put-same, put-other}
+use Rattle.slots.specs.Slots.{put}
+use Rattle.slots.proofs.Laws.{put-length, put-same, put-other}
 use Rattle.call_judges.specs.Judge.{inRange, follows, free, Ordered, Seen}
 use Rattle.call_judges.proofs.Order.{before-ordered, ordered-width}
 

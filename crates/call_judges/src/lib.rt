@@ -14,8 +14,8 @@ use row_moves::move_size;
 use row_moves::name_of;
 use row_moves::place_of;
 use row_moves::width_of;
-use step_slots::load;
-use step_slots::store;
+use slots::load;
+use slots::store;
 
 fn between(a: u16, b: u16, v: u16) -> bool
     ensures { λ r. ⌜ r ≡ within a b v ⌝ }

@@ -3,7 +3,7 @@
 use Prim.Native.Nat.{ℕ, suc, _+_, _-_, _*_, _/_, _≤_, _<_}
 use mathlib.Core.Path.{_≡_, refl, sym, ap, _∙_}
 use mathlib.Core.Logic.{⊎-elim}
-use mathlib.Core.List.{List, _++_}
+use mathlib.Core.List.{List, [], _∷_, _++_}
 use native.Mathlib.Omega.{arith}
 use native.Mathlib.Nat.{mul-le-mul-left}
 use lib.ListN.{length, length-append}
@@ -12,12 +12,13 @@ use Rattle.words.specs.Groups.{table}
 use Rattle.words.specs.Moves.{topOf, top, moveSize, moveCount, movesIn, moves, log, M}
 use Rattle.words.proofs.Tests.{lt-or-ge}
 use Rattle.words.proofs.MoveLayout.{move-some}
-use Rattle.words.proofs.Ranges.{gather-more, gather-parts}
+use Rattle.words.proofs.Ranges.{append-nil, gather-more, gather-parts}
 use Rattle.words.proofs.Room.{moveCountAt, moves-length, log-room}
-use Rattle.words.proofs.Stop.{log-stops}
-use Rattle.step_slots.specs.Slots.{view}
-use Rattle.partition.specs.Held.{Advanced, Stands}
-use Rattle.partition.proofs.OfRead.{stands-advance, moves-advance, still-advance}
+use Rattle.words.proofs.Stop.{count-still, still-quiet, log-stops}
+use Rattle.slots.specs.Slots.{view}
+use Rattle.step1_rows.specs.Rows.{row, NAME}
+use Rattle.step2_bits.specs.Sets.{flags}
+use Rattle.steps.specs.Held.{Stands}
 use Rattle.row_cells.specs.Stored.{stored}
 use Rattle.call_logs.specs.Written.{below, Logging, Written}
 use Rattle.words.proofs.Sizes.{room-few}
@@ -60,63 +61,68 @@ module _ (x : List ℕ) where
   unfolding top topOf
   top-reached w n e h l m = omega arith
 
-  module _ (old : List ℕ) where
-    -- a read that is not too long has few moves
-    pub logging-few : (w k n : ℕ) (name small block sizes prev dist head after before out : List ℕ) → 1 ≤ n → Logging x old w k n name small block sizes prev dist head after before out → k ≤ 9990
-    logging-few w k n name small block sizes prev dist head after before out h D =
-        ⊎-elim
-        (λ (l : M n < k).
-        absurd (omega (
-          arith,
-          D .many,
-          below-room w (D .low) (D .high),
-          ap (λ (v : ℕ). moveSize * M v) (D .stands .long),
-          mul-le-mul-left moveSize l,
-          move-some,
-        )))
-        (λ l. omega (arith, room-few n h (D .stands .held .few)))
-        (lt-or-ge (M n) k)
+  -- a width without moves has none in the log
+  moves-none : (w : ℕ) → moveCountAt x w ≡ 0 → moves x w ≡ []
+  moves-none w z = go (moves x w) (moves-length x w ∙ ap (λ (v : ℕ). moveSize * v) z)
+    where
+      go : (l : List ℕ) → length l ≡ moveSize * 0 → l ≡ []
+      go [] e = refl
+      go (a ∷ l) e = absurd (omega arith)
 
-    pub logging-begins : (n : ℕ) (name small block sizes prev dist head after before : List ℕ) → Stands x 1 n name small block sizes prev dist head after before → Logging x old 1 0 n name small block sizes prev dist head after before old
+  module _ (old : List ℕ) where
+    pub logging-begins : Logging x old 1 0 old
     unfolding below gather
-    logging-begins n name small block sizes prev dist head after before S = record { low = omega arith; high = top-low; stands = S; front = sym (stored-none old 0); many = omega arith }
+    logging-begins = record { low = omega arith; high = top-low; front = sym (stored-none old 0); many = omega arith }
       where
         top-low : 1 ≤ top x
         top-low = unfold top topOf in (omega arith)
 
-    module _ (w k n : ℕ) (name small block sizes prev dist head after before out : List ℕ) (D : Logging x old w k n name small block sizes prev dist head after before out) where
-      counted : moveCount (view n name) (view n small) ≡ moveCountAt x w
-      counted = ap (λ (t : List ℕ). moveCount t (view n small)) (D .stands .names) ∙ ap (moveCount (table x w)) (D .stands .flags)
+    module _ (n w k : ℕ) (a : List (List ℕ)) (small out : List ℕ) (S : Stands x w n a small) (D : Logging x old w k out) where
+      abbrev t : List ℕ
+      t = view n (row a NAME)
+
+      abbrev f : List ℕ
+      f = view n (flags small)
+
+      counted : moveCount t f ≡ moveCountAt x w
+      counted = ap (λ (v : List ℕ). moveCount v f) (S .names) ∙ ap (moveCount (table x w)) (S .flags-are)
 
       -- one width more has room
-      pub logging-room : w < n / 2 → moveSize * M n ≤ length old → length out ≡ length old → moveSize * k + moveSize * moveCount (view n name) (view n small) ≤ length out
+      pub logging-room : w < n / 2 → moveSize * M n ≤ length old → length out ≡ length old → moveSize * k + moveSize * moveCount t f ≤ length out
       logging-room l h e =
-          let t : w < top x = top-above w n (D .stands .long) l in
+          let r : w < top x = top-above w n (S .long) l in
           omega (
             arith,
             D .many,
             below-length w (D .low),
             ap (λ (v : ℕ). moveSize * v) counted,
-            below-room (suc w) (omega arith) t,
-            ap (λ (v : ℕ). moveSize * M v) (D .stands .long),
+            below-room (suc w) (omega arith) r,
+            ap (λ (v : ℕ). moveSize * M v) (S .long),
           )
 
       -- at top it is the log
       pub logging-ends : n / 2 ≤ w → Written x old out k
       logging-ends l =
-          let e : below x w ≡ log x = ap (below x) (top-reached w n (D .stands .long) (D .low) l (D .high)) ∙ below-top in
+          let e : below x w ≡ log x = ap (below x) (top-reached w n (S .long) (D .low) l (D .high)) ∙ below-top in
           record { front = D .front ∙ ap (stored old 0) e; many = ap length (sym e) ∙ D .many }
 
-      module _ (m : ℕ) (name′ small′ block′ sizes′ prev′ dist′ head′ after′ before′ que′ part′ last′ tail′ rest′ best′ out′ : List ℕ)
-          (A : Advanced n m name small name′ small′ block′ sizes′ prev′ dist′ head′ after′ before′ que′ part′ last′ tail′ rest′ best′)
-          (o : out′ ≡ stored out (moveSize * k) (movesIn w (view n name) (view n small))) (l : w < n / 2) where
+      module _ (m : ℕ) (l : w < n / 2) (c : m ≡ moveCount t f) where
+        -- without a move it is the log
+        pub logging-stops : m ≡ 0 → Written x old out k
+        logging-stops z =
+            let q : moveCountAt x w ≡ 0 = sym counted ∙ sym c ∙ z in
+            let e : below x w ≡ log x = sym (append-nil (below x w)) ∙ ap (λ (v : List ℕ). below x w ++ v) (sym (moves-none w q)) ∙ sym (below-more w (D .low)) ∙ sym (stopped q) in
+            record { front = D .front ∙ ap (stored old 0) e; many = ap length (sym e) ∙ D .many }
+          where
+            stopped : moveCountAt x w ≡ 0 → log x ≡ below x (suc w)
+            stopped q = unfold below in (log-stops x (suc w) (omega arith) (top-above w n (S .long) l) (still-quiet x w (D .low) (count-still x w q)))
+
         -- one width more
-        pub logging-goes-on : Logging x old (suc w) (k + m) n name′ small′ block′ sizes′ prev′ dist′ head′ after′ before′ out′
-        logging-goes-on =
+        pub logging-on : (out′ : List ℕ) → out′ ≡ stored out (moveSize * k) (movesIn w t f) → Logging x old (suc w) (k + m) out′
+        logging-on out′ o =
             record {
               low = omega arith;
-              high = top-above w n (D .stands .long) l;
-              stands = stands-advance x w (D .low) _ _ _ _ _ _ _ _ _ _ _ _ _ _ _ _ _ _ _ _ _ _ _ _ _ _ (D .stands) A;
+              high = top-above w n (S .long) l;
               front =
                   o
                   ∙ ap (stored out (moveSize * k)) moved
@@ -124,31 +130,26 @@ module _ (x : List ℕ) where
                   ∙ ap (λ (v : ℕ). stored (stored old 0 (below x w)) v (moves x w)) (omega (arith, D .many))
                   ∙ sym (stored-append old (below x w) (moves x w) 0)
                   ∙ ap (stored old 0) (sym (below-more w (D .low)));
-              many =
-                  omega (
-                    arith,
-                    D .many,
-                    below-length w (D .low),
-                    ap (λ (v : ℕ). moveSize * v) (moves-advance x w (D .low) _ _ _ _ _ _ _ _ _ _ _ _ _ _ _ _ _ _ _ _ _ _ _ _ _ _ (D .stands) A),
-                  );
+              many = omega (arith, D .many, below-length w (D .low), ap (λ (v : ℕ). moveSize * v) (c ∙ counted));
             }
           where
-            moved : movesIn w (view n name) (view n small) ≡ moves x w
-            moved = unfold moves in (ap (λ (t : List ℕ). movesIn w t (view n small)) (D .stands .names) ∙ ap (movesIn w (table x w)) (D .stands .flags))
+            moved : movesIn w t f ≡ moves x w
+            moved = unfold moves in (ap (λ (v : List ℕ). movesIn w v f) (S .names) ∙ ap (movesIn w (table x w)) (S .flags-are))
 
-        pub logging-goes-few : k + m ≤ 9990
-        logging-goes-few = logging-few (suc w) (k + m) n _ _ _ _ _ _ _ _ _ _ (omega arith) logging-goes-on
-
-        -- without a move it is the log
-        pub logging-stops : m ≡ 0 → Written x old out′ k
-        logging-stops z =
-            record {
-              front = logging-goes-on .front ∙ ap (stored old 0) (sym stopped);
-              many = ap length stopped ∙ logging-goes-on .many ∙ ap (λ (v : ℕ). moveSize * v) (omega arith);
-            }
-          where
-            stopped : log x ≡ below x (suc w)
-            stopped =
-                unfold below in (
-                log-stops x (suc w) (omega arith) (logging-goes-on .high) (still-advance x w (D .low) _ _ _ _ _ _ _ _ _ _ _ _ _ _ _ _ _ _ _ _ _ _ _ _ _ _ (D .stands) A z)
-                )
+        -- a read that is not too long has few moves
+        pub logging-few : k + m ≤ 9990
+        logging-few =
+            ⊎-elim
+            (λ (b : M n < k + m).
+            absurd (omega (
+              arith,
+              D .many,
+              below-length w (D .low),
+              ap (λ (v : ℕ). moveSize * v) (c ∙ counted),
+              below-room (suc w) (omega arith) (top-above w n (S .long) l),
+              ap (λ (v : ℕ). moveSize * M v) (S .long),
+              mul-le-mul-left moveSize b,
+              move-some,
+            )))
+            (λ b. omega (arith, room-few n (omega arith) (S .held .few)))
+            (lt-or-ge (M n) (k + m))

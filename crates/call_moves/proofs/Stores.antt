@@ -9,15 +9,14 @@ use Rattle.words.specs.Reads.{at}
 use Rattle.words.specs.Moves.{moveOf, moveSize, movesIn}
 use Rattle.words.proofs.Ranges.{gather-same, gather-more}
 use Rattle.words.proofs.Sums.{sum-same, sum-const, length-gather}
-use Rattle.step_slots.specs.Slots.{view}
-use Rattle.step_slots.proofs.Laws.{view-at}
-use Rattle.step_refine.specs.Refine.{queue}
-use Rattle.step_refine.specs.Phases.{Ready}
+use Rattle.slots.specs.Slots.{view}
+use Rattle.slots.proofs.Laws.{view-at}
+use Rattle.refine.specs.Refine.{Lined, queue}
 use Rattle.words.proofs.MoveLayout.{move-length}
 use Rattle.row_cells.specs.Stored.{stored}
 use Rattle.row_cells.proofs.Stored.{stored-append, stored-none}
 use Rattle.call_moves.specs.Queued.{Inside, moveFrom, movesTo}
-use Rattle.step_refine.proofs.QueueMoves.{moves-queue-places}
+use Rattle.refine.proofs.QueueMoves.{moves-queue-places}
 
 module _ (w : ℕ) (name que : List ℕ) where
   moves-to-length : (q : ℕ) → length (movesTo w name que q) ≡ moveSize * q
@@ -53,14 +52,14 @@ module _ (w : ℕ) (name que : List ℕ) where
       move = ap (λ (v : ℕ). moveOf w v i) (n ∙ ap (at name) (omega arith)) ∙ ap (λ (v : ℕ). moveOf w (at name (suc v)) v) place
 
 -- the queue of a width in an array
-module _ (name que : List ℕ) (n m : ℕ) (R : Ready name que n m) (f : List ℕ) (queued : view m que ≡ queue (view n name) f) (count : m ≡ length (queue (view n name) f)) where
+module _ (name que : List ℕ) (n m : ℕ) (few : n ≤ 1000) (lined : Lined (view n name) (view m que)) (f : List ℕ) (queued : view m que ≡ queue (view n name) f) (count : m ≡ length (queue (view n name) f)) where
   placed : (q : ℕ) → 1 ≤ q → q ≤ m → (1 ≤ at que q) × (suc (at que q) ≤ length (view n name))
   placed q a b =
       let e : at que q ≡ at (view m que) q = sym (view-at m que q a b) in
-      rw e (R .lined .inside q a (omega (arith, b, count, ap length queued)))
+      rw e (lined .inside q a (omega (arith, b, count, ap length queued)))
 
   pub queue-inside : length (view n name) ≡ n → Inside que m
-  queue-inside l q a b = let p = placed q a b in (p .0, omega (arith, p .1, R .few))
+  queue-inside l q a b = let p = placed q a b in (p .0, omega (arith, p .1, few))
 
   -- its moves are those of the width
   pub queue-moves-in : length (view n name) ≡ n → (w : ℕ) → movesTo w name que m ≡ movesIn w (view n name) f

@@ -4,11 +4,14 @@ ghost use Prim.Native.Nat.{_+_, _*_, _≤_};
 ghost use lib.ListN.{length};
 ghost use Rattle.words.specs.Moves.{moveSize, log2, M};
 ghost use Rattle.row_cells.specs.Stored.{stored};
+ghost use Rattle.step1_rows.specs.Rows.{row, NAME, QUE};
 ghost use Rattle.call_moves.specs.Queued.{Inside, movesTo};
 use row_moves::move_size;
 use row_moves::put_move;
-use step_slots::load;
-use step_slots::wide;
+use slots::wide;
+use step1_rows::NAME;
+use step1_rows::QUE;
+use step1_rows::load;
 
 // how many binary digits n has: one more than the whole part of its logarithm
 fn digits(n: u16) -> usize
@@ -35,18 +38,18 @@ pub fn room(n: u16) -> usize
     move_size() * (wide(n - 1) * digits(n))
 }
 
-// the moves of the first m positions of a queue, each under the name of its right neighbour, behind the k moves that are there
-pub fn write_moves(out: &mut [u16], k: usize, que: &[u16; 1000], name: &[u16; 1000], w: u16, m: u16)
-    requires { ⌜ (m ≤ 1000) × Inside (now que) m × (moveSize * k + moveSize * m ≤ length (now out)) ⌝ }
-    ensures { λ r. ⌜ now (out .exit) ≡ stored (now (out .entry)) (moveSize * k) (movesTo w (now (name .entry)) (now (que .entry)) m) ⌝ }
+// the moves of the first m positions of the queue, each under the name of its right neighbour, behind the k moves that are there
+pub fn write_moves(out: &mut [u16], k: usize, a: &[[u16; 1000]; 13], w: u16, m: u16)
+    requires { ⌜ (m ≤ 1000) × Inside (row (now a) QUE) m × (moveSize * k + moveSize * m ≤ length (now out)) ⌝ }
+    ensures { λ r. ⌜ now (out .exit) ≡ stored (now (out .entry)) (moveSize * k) (movesTo w (row (now (a .entry)) NAME) (row (now (a .entry)) QUE) m) ⌝ }
 {
     let size = move_size();
     let mut q: u16 = 0;
     let mut at = size * k;
     while q < m {
         q += 1;
-        let i = load(que, q);
-        let s = load(name, i + 1);
+        let i = load(a, QUE, q);
+        let s = load(a, NAME, i + 1);
         put_move(out, at, w, s, i);
         at += size;
     }

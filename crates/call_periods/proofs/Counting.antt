@@ -5,17 +5,14 @@ use mathlib.Core.Logic.{⊎-elim, inl, inr, _⊎_}
 use mathlib.Core.Bool.{true, false, not}
 use mathlib.Core.List.{List}
 use native.Mathlib.Omega.{arith}
-use lib.ListN.{length}
 use lib.Dec.{leb, eqb}
 use borrow.Author.Tests.{eqb-true, leb-false, not-false}
 use Rattle.words.specs.Reads.{at}
 use Rattle.words.proofs.Tests.{or-cases, or-left, or-fails-left, or-fails-right, clash, lt-or-ge}
-use Rattle.step_slots.specs.Slots.{put}
-use Rattle.step_slots.proofs.Laws.{put-length, put-same, put-other}
-use Rattle.step_distances.specs.Walk.{Spans}
+use Rattle.slots.specs.Slots.{put}
+use Rattle.slots.proofs.Laws.{put-length, put-same, put-other}
 use Rattle.call_periods.specs.Periods.{chain, leadsIn, wantedIn, Near, Follows, Counted}
 use Rattle.call_periods.proofs.Chains.{chain-on}
-use Rattle.call_periods.proofs.Starts.{start-in}
 
 module _ (dist : List ℕ) (mode p i : ℕ) (count : List ℕ) (C : Counted dist mode p i count) where
   -- the start before one that does not lead
@@ -49,7 +46,3 @@ module _ (dist : List ℕ) (mode p i : ℕ) (count : List ℕ) (C : Counted dist
       go j c d e w (inr l) =
           let q : j ≡ i = omega arith in
           ap (at (put count i (chain dist p i))) q ∙ put-same count i (chain dist p i) a (omega (arith, C .long)) ∙ ap (chain dist p) (sym q)
-
--- below the span there is no start
-pub counted-none : (dist : List ℕ) (mode p : ℕ) (count : List ℕ) → Near p dist → (lo hi : ℕ) → Spans dist p lo hi → length count ≡ 1000 → Counted dist mode p lo count
-counted-none dist mode p count N lo hi S l = record { long = l; held = λ j a b e w. absurd (omega (arith, b, start-in dist mode p N lo hi S j a e .0)) }

@@ -1,3 +1,4 @@
 pub mod Chains
 pub mod Starts
 pub mod Counting
+pub mod Turns

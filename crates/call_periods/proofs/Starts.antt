@@ -8,16 +8,14 @@ use native.Mathlib.Omega.{arith}
 use lib.ListN.{length}
 use lib.Dec.{eqb}
 use borrow.Author.Tests.{eqb-true, eq-eqb, ne-eqb, le-leb, lt-leb}
-use Rattle.words.specs.Range.{gather}
 use Rattle.words.specs.Reads.{at}
 use Rattle.words.specs.Repeats.{leads}
 use Rattle.words.specs.Lists.{lineOf, lineAt, line, linesAt, inMode}
 use Rattle.words.proofs.Tests.{either, lt-or-ge}
-use Rattle.words.proofs.Ranges.{gather-same, gather-stop, gather-none}
+use Rattle.words.proofs.Ranges.{gather-same, gather-stop}
 use Rattle.words.proofs.Lines.{line-gap, lines-at-each, leads-gap}
-use Rattle.step_distances.specs.Walk.{Spans}
 use Rattle.call_periods.specs.Periods.{chain, leadsIn, wantedIn, lineIn, linesIn, Near, Gapped}
-use Rattle.call_periods.proofs.Chains.{past, start-gap, chain-copies}
+use Rattle.call_periods.proofs.Chains.{start-gap, chain-copies}
 
 module _ (dist : List ℕ) (mode p : ℕ) where
   -- the two tests of the code
@@ -37,27 +35,6 @@ module _ (dist : List ℕ) (mode p : ℕ) where
   pub line-in-wanted : (i : ℕ) → at dist i ≡ p → wantedIn dist mode p i ≡ true → lineIn dist mode p i ≡ lineOf i p (chain dist p i)
   unfolding lineIn
   line-in-wanted i e w = rw (eq-eqb (at dist i) p e, w)
-
-  module _ (N : Near p dist) (lo hi : ℕ) (S : Spans dist p lo hi) where
-    pub span-low : 1 ≤ lo
-    span-low = S .low 1 (omega arith) (λ k h e. h .0)
-
-    pub span-high : hi ≤ 1000
-    span-high = S .high 1000 (λ k h e. h .1)
-
-    -- every start lies in the span
-    pub start-in : (i : ℕ) → 1 ≤ i → at dist i ≡ p → (lo ≤ i) × (i ≤ hi)
-    start-in i a e = ⊎-elim (λ l. absurd (past dist p N i l e)) (λ l. S .holds i (a, l) e) (lt-or-ge 1000 i)
-
-    pub lines-below : gather (lineIn dist mode p) (lo - 1) 1 ≡ []
-    lines-below = gather-none (lineIn dist mode p) (lo - 1) 1 (λ i a b. line-in-none i (λ e. omega (arith, b, start-in i a e .0)))
-
-    lines-above : (d : ℕ) → hi ≤ d → gather (lineIn dist mode p) d 1 ≡ gather (lineIn dist mode p) hi 1
-    lines-above d h = gather-stop (lineIn dist mode p) hi d 1 h (λ i a b. line-in-none i (λ e. omega (arith, a, start-in i (omega arith) e .1)))
-
-    pub lines-until : (d : ℕ) → hi ≤ d → gather (lineIn dist mode p) d 1 ≡ linesIn dist mode p
-    unfolding linesIn
-    lines-until d h = lines-above d h ∙ sym (lines-above 1000 span-high)
 
   module _ (N : Near p dist) (x : List ℕ) (G : Gapped x p dist) where
     leads-in : (i : ℕ) → 1 ≤ i → i ≤ length x → at dist i ≡ p → leads x i p ≡ leadsIn dist p i

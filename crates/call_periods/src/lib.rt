@@ -1,22 +1,20 @@
 // The lines of one period, read off the distances of the positions at that width: a line starts where the distance is the period, and its copies
-// are the starts that follow p apart. There is no read and no partition here. `lines_at` promises the lines of the period behind those that were
-// there, as far as the slice has room; it costs a look at each place between the period's first and last start.
+// are the starts that follow p apart. There is no read and no partition here. `lines_at` is handed the starts as a set, which it empties, least first;
+// it promises the lines of the period behind those that were there, as far as the slice has room.
 ghost use mathlib.Core.Path.{_≡_};
 ghost use mathlib.Core.Bool.{false, _||_};
-ghost use mathlib.Core.List.{List};
-ghost use Prim.Native.Nat.{ℕ, _+_, _≤_};
+ghost use Prim.Native.Nat.{_+_, _≤_};
 ghost use lib.ListN.{length};
 ghost use lib.Dec.{eqb};
 ghost use Rattle.words.specs.Reads.{at};
 ghost use Rattle.words.specs.Lists.{lineSize};
 ghost use Rattle.row_cells.specs.Listing.{many, Adds};
-ghost use Rattle.step_distances.specs.Lists.{Lists};
-ghost use Rattle.step_distances.specs.Walk.{Spans};
+ghost use Rattle.step2_bits.specs.Sets.{flags, Sound, Empty, Where};
 ghost use Rattle.call_periods.specs.Periods.{chain, leadsIn, lineIn, linesIn, Near, Follows, Counted};
 use row_lines::add_line;
-use step_distances::span_of;
-use step_slots::load;
-use step_slots::store;
+use slots::load;
+use slots::store;
+use step2_bits::take_least;
 
 // does i have no start p before it?
 fn leads_at(dist: &[u16; 1000], p: u16, i: u16) -> bool
@@ -64,8 +62,8 @@ fn copies_at(count: &[u16; 1000], dist: &[u16; 1000], p: u16, i: u16, first: boo
     load(count, i - p) - 1
 }
 
-// the line of place i, if there is one; returns the number of lines
-fn scan_one(
+// the line of a start i, if it is listed; returns the number of lines
+fn line_one(
     out: &mut [u16],
     count: &mut [u16; 1000],
     dist: &[u16; 1000],
@@ -74,12 +72,9 @@ fn scan_one(
     i: u16,
     k: usize,
 ) -> usize
-    requires { ⌜ Near p (now dist) × (1 ≤ i) × (i ≤ 1000) × (k ≤ many) × Counted (now dist) mode p i (now count) ⌝ }
+    requires { ⌜ Near p (now dist) × (1 ≤ i) × (i ≤ 1000) × (at (now dist) i ≡ p) × (k ≤ many) × Counted (now dist) mode p i (now count) ⌝ }
     ensures { λ r. ⌜ Adds lineSize k r (lineIn (now (dist .entry)) mode p i) (now (out .entry)) (now (out .exit)) × (r ≤ k + 1) × Counted (now (dist .entry)) mode p (i + 1) (now (count .exit)) ⌝ }
 {
-    if load(dist, i) != p {
-        return k;
-    }
     let first = leads_at(dist, p, i);
     if !wants(mode, first) {
         return k;
@@ -90,43 +85,24 @@ fn scan_one(
     k + 1
 }
 
-// the lines of period p, whose starts lie from lo to hi; returns the number of lines
-fn scan(
-    out: &mut [u16],
-    count: &mut [u16; 1000],
-    dist: &[u16; 1000],
-    mode: u32,
-    p: u16,
-    lo: u16,
-    hi: u16,
-    prior: usize,
-) -> usize
-    requires { ⌜ Near p (now dist) × Spans (now dist) p lo hi × (prior + 1000 ≤ many) × (length (now count) ≡ 1000) ⌝ }
-    ensures { λ r. ⌜ Adds lineSize prior r (linesIn (now (dist .entry)) mode p) (now (out .entry)) (now (out .exit)) × (r ≤ prior + 1000) × (length (now (count .exit)) ≡ 1000) ⌝ }
-{
-    let mut k = prior;
-    let mut i = lo - 1;
-    while i < hi {
-        i += 1;
-        k = scan_one(out, count, dist, mode, p, i, k);
-    }
-    k
-}
-
-// the lines of period p; returns the number of lines
+// the lines of period p, whose starts are taken out of a set; returns the number of lines
 pub fn lines_at(
     out: &mut [u16],
     count: &mut [u16; 1000],
+    starts: &mut [u64; 17],
     dist: &[u16; 1000],
-    head: &[u16; 1000],
-    after: &[u16; 1000],
     mode: u32,
     p: u16,
-    k: usize,
+    prior: usize,
 ) -> usize
-    requires { ⌜ Near p (now dist) × (p ≤ 1000) × ((before : List ℕ) × Lists (now dist) (now head) (now after) before) × (k + 1000 ≤ many) × (length (now count) ≡ 1000) ⌝ }
-    ensures { λ r. ⌜ Adds lineSize k r (linesIn (now (dist .entry)) mode p) (now (out .entry)) (now (out .exit)) × (r ≤ k + 1000) × (length (now (count .exit)) ≡ 1000) ⌝ }
+    requires { ⌜ Near p (now dist) × Sound (now starts) × Where (now dist) p (flags (now starts)) × (prior + 1000 ≤ many) × (length (now count) ≡ 1000) ⌝ }
+    ensures { λ r. ⌜ Adds lineSize prior r (linesIn (now (dist .entry)) mode p) (now (out .entry)) (now (out .exit)) × (r ≤ prior + 1000) × (length (now (count .exit)) ≡ 1000) × Sound (now (starts .exit)) × Empty (flags (now (starts .exit))) ⌝ }
 {
-    let s = span_of(head, after, p);
-    scan(out, count, dist, mode, p, s.lo, s.hi, k)
+    let mut k = prior;
+    let mut i = take_least(starts);
+    while 0 < i {
+        k = line_one(out, count, dist, mode, p, i, k);
+        i = take_least(starts);
+    }
+    k
 }

@@ -1,3 +1,4 @@
+pub mod Letters
 pub mod Marked
 pub mod Renaming
 pub mod Turns

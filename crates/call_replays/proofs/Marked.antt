@@ -15,9 +15,9 @@ use Rattle.words.specs.Reads.{at}
 use Rattle.words.specs.Moves.{moveSize, widthOf, nameOf, placeOf}
 use Rattle.words.specs.Replay.{under}
 use Rattle.words.proofs.Tests.{clash, and-left, and-right, and-both, lt-or-ge}
-use Rattle.step_slots.specs.Slots.{put}
-use Rattle.step_slots.proofs.Laws.{put-length, put-same, put-other}
-use Rattle.step_refine.specs.Phases.{Clean}
+use Rattle.slots.specs.Slots.{put}
+use Rattle.slots.proofs.Laws.{put-length, put-same, put-other}
+use Rattle.refine.specs.Phases.{Clean}
 use Rattle.call_judges.specs.Judge.{Formed}
 use Rattle.call_replays.specs.Split.{Splits, isAt, Marking, Marks, Block}
 use Rattle.words.proofs.Under.{Traced, under-traced}

@@ -17,8 +17,8 @@ use Rattle.words.specs.Groups.{Least}
 use Rattle.words.proofs.Tests.{clash, and-left, and-right, and-both, lt-or-ge}
 use Rattle.words.proofs.Ranges.{at-column, length-column}
 use Rattle.words.proofs.Leaders.{Equivalence, leader-low, leader-high, leader-joins, leader-same, leader-own}
-use Rattle.step_slots.specs.Slots.{put}
-use Rattle.step_slots.proofs.Laws.{put-length, put-same, put-other}
+use Rattle.slots.specs.Slots.{put}
+use Rattle.slots.proofs.Laws.{put-length, put-same, put-other}
 use Rattle.call_replays.specs.Split.{joint, split, headOf, Nameable, Renamed, Head, Renaming}
 use Rattle.words.proofs.Rule.{at-ext}
 

@@ -10,9 +10,9 @@ use lib.ListN.{length}
 use Rattle.words.specs.Reads.{at}
 use Rattle.words.specs.Moves.{nameOf, placeOf}
 use Rattle.words.proofs.Tests.{lt-or-ge}
-use Rattle.step_slots.specs.Slots.{view}
-use Rattle.step_slots.proofs.Laws.{view-length, view-at}
-use Rattle.step_refine.specs.Phases.{Clean}
+use Rattle.slots.specs.Slots.{view}
+use Rattle.slots.proofs.Laws.{view-length, view-at}
+use Rattle.refine.specs.Phases.{Clean}
 use Rattle.call_replays.specs.Split.{split, Block, Nameable, Renamed, UnmarkedRenamed, Renaming, Unmarked, Covered, Groups}
 use Rattle.call_replays.proofs.Renaming.{Next, renaming-nameable, renaming-step, renaming-same, renaming-end}
 

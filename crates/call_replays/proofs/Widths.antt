@@ -8,8 +8,8 @@ use Rattle.words.specs.Range.{leader}
 use Rattle.words.specs.Replay.{stays, after, replay}
 use Rattle.words.proofs.Ranges.{column-same, leader-agrees}
 use Rattle.words.proofs.Replay.{replay-least}
-use Rattle.step_slots.specs.Slots.{view}
-use Rattle.step_slots.proofs.Laws.{view-length}
+use Rattle.slots.specs.Slots.{view}
+use Rattle.slots.proofs.Laws.{view-length}
 use Rattle.call_replays.specs.Split.{Marks, joint, split, Groups}
 
 pub split-after : (n : ℕ) (old mark l : List ℕ) (v : ℕ) → Groups n old → Marks l v mark → (u : List ℕ) → u ≡ split (view n old) mark → u ≡ after (view n old) l v

@@ -12,7 +12,7 @@ use Rattle.words.specs.Reads.{at}
 use Rattle.words.specs.Groups.{Least}
 use Rattle.words.specs.Moves.{moveSize, widthOf, nameOf, placeOf}
 use Rattle.words.specs.Replay.{under}
-use Rattle.step_slots.specs.Slots.{put, view}
+use Rattle.slots.specs.Slots.{put, view}
 
 -- ---- the entries of a width
 

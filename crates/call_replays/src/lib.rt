@@ -6,7 +6,7 @@
 ghost use mathlib.Core.Path.{_≡_};
 ghost use mathlib.Core.Bool.{not, _||_};
 ghost use Prim.Native.Nat.{_+_, _≤_, _<_};
-ghost use lib.ListN.{length};
+ghost use lib.ListN.{length, getD};
 ghost use lib.Dec.{eqb};
 ghost use Rattle.words.specs.Rows.{rows};
 ghost use Rattle.words.specs.Reads.{at};
@@ -16,9 +16,10 @@ ghost use Rattle.words.specs.Replay.{after, replay};
 ghost use Rattle.words.specs.Logs.{within};
 ghost use Rattle.words.specs.Answers.{replayedSays};
 ghost use Rattle.words.specs.Calls.{replayAnswer, replayLeaves};
-ghost use Rattle.step_slots.specs.Slots.{put, view};
-ghost use Rattle.step_refine.specs.Phases.{Clean};
+ghost use Rattle.slots.specs.Slots.{put, view};
+ghost use Rattle.refine.specs.Phases.{Clean};
 ghost use Rattle.call_judges.specs.Judge.{Formed};
+ghost use Rattle.call_replays.specs.Letters.{seenWith};
 ghost use Rattle.call_replays.specs.Split.{Splits, isAt, Marks, Block, split, headOf, Nameable, Renamed, UnmarkedRenamed, Renaming, Unmarked, Groups};
 use call_judges::first_bad;
 use call_judges::well_formed;
@@ -29,8 +30,9 @@ use row_moves::entries;
 use row_moves::name_of;
 use row_moves::place_of;
 use row_moves::width_of;
-use step_slots::load;
-use step_slots::store;
+use slots::load;
+use slots::store;
+use slots::wide;
 use words::Replayed;
 
 // ---- the entries of one width
@@ -176,14 +178,33 @@ fn replay_width(name: &mut [u16; 1000], log: &[u16], n: u16, from: usize, v: u16
 
 // ---- the replay
 
-// the groups of width 1
+// the first position that has the byte of i, which is i itself if none was seen that has it
+fn first_with(seen: &mut [u16; 256], byte: u8, i: u16) -> u16
+    requires { ⌜ length (now seen) ≡ 256 ⌝ }
+    ensures { λ r. ⌜ (now (seen .exit) ≡ seenWith (now (seen .entry)) byte i) × (r ≡ getD (now (seen .exit)) byte 0) ⌝ }
+{
+    let b = byte as usize;
+    let first = seen[b];
+    if 0 < first {
+        return first;
+    }
+    seen[b] = i;
+    i
+}
+
+// the groups of width 1: each position is named by the first that has its byte
 fn first_groups(name: &mut [u16; 1000], read: &[u8], n: u16)
     requires { ⌜ (n ≤ 1000) × (length (now read) ≡ n) × (length (now name) ≡ 1000) ⌝ }
     ensures { λ r. ⌜ (length (now (name .exit)) ≡ 1000) × (view n (now (name .exit)) ≡ table (now (read .entry)) 1) ⌝ }
 {
-    let mut prev = [0u16; 1000];
-    let mut dist = [0u16; 1000];
-    step_fresh::link_letters(name, &mut prev, &mut dist, read, n);
+    let mut seen = [0u16; 256];
+    let mut i: u16 = 0;
+    while i < n {
+        let at = wide(i);
+        i += 1;
+        let s = first_with(&mut seen, read[at], i);
+        store(name, i, s);
+    }
 }
 
 // the groups at a width, by the replay of a log whose entries are good

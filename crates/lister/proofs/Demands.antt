@@ -27,6 +27,7 @@ use Rattle.words.proofs.MoveLayout.{move-some}
 use Rattle.words.proofs.Room.{log-length, log-room}
 use Rattle.partition.specs.Stand.{groups}
 use Rattle.partition.specs.declared.Partition.{Partition}
+use Rattle.partition.proofs.OfRead.{of-groups}
 use Rattle.call_lists.proofs.list.Reads as list-call
 use Rattle.call_tables.proofs.group_table.Reads as table-call
 use Rattle.call_logs.proofs.log.Reads as log-call
@@ -178,4 +179,4 @@ pub table-is-the-partitions : (κs : _) (a : _) (r : _) (e : _) → table-call.L
 table-is-the-partitions κs a r e h ok p m S =
     let B = every-call-is-answered .table κs a .1 r e h in
     let w = B .exactly 0 .0 ok in
-    B .gives 0 w .1 ∙ ap (λ (t : List ℕ). front t (now (a .1 .1 .0))) (sym (steps-of (now (a .0)) p m S (a .1 .0) (w .1) (w .2) .stands .names))
+    B .gives 0 w .1 ∙ ap (λ (t : List ℕ). front t (now (a .1 .1 .0))) (sym (of-groups _ _ _ (steps-of (now (a .0)) p m S (a .1 .0) (w .1) (w .2))))

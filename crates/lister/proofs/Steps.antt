@@ -19,7 +19,7 @@ use Rattle.words.proofs.Room.{moveCountAt, log-length}
 use Rattle.partition.specs.Stand.{Of, groups, smallOnes}
 use Rattle.partition.specs.declared.Partition.{Partition}
 use Rattle.partition.proofs.Steps.{step-on}
-use Rattle.partition.proofs.OfRead.{step-of}
+use Rattle.partition.proofs.OfRead.{of-groups, of-smalls, of-least, step-of}
 use Rattle.partition.proofs.Partition.fresh.Reads as fresh
 use Rattle.partition.proofs.Partition.step.Reads as step
 
@@ -47,9 +47,9 @@ module _ (x : List ℕ) (p : ℕ → Partition) (m : ℕ → ℕ) (S : Steps x p
   steps-count : (w : ℕ) → 1 ≤ w → w < length x → m w ≡ moveCountAt x w
   steps-count w a b =
       let O = steps-of w a (omega arith) in
-      let s = step-on w (groups (p w)) (smallOnes (p w)) (omega (arith, ap length (O .stands .names), table-length x w)) (O .stands .held .least) in
+      let s = step-on w (groups (p w)) (smallOnes (p w)) (omega (arith, ap length (of-groups x w (p w) O), table-length x w)) (of-least x w (p w) O) in
       S .next w a .2 .5 ∙ ap (λ (u : ℕ). stepCount u (groups (p w)) (smallOnes (p w))) (O .width) ∙ s .3
-      ∙ ap (λ (t : List ℕ). moveCount t (smallOnes (p w))) (O .stands .names) ∙ ap (moveCount (table x w)) (O .stands .flags)
+      ∙ ap (λ (t : List ℕ). moveCount t (smallOnes (p w))) (of-groups x w (p w) O) ∙ ap (moveCount (table x w)) (of-smalls x w (p w) O)
 
   -- summed over the widths of the log, its number of moves
   pub steps-sum : sum m (top x - 1) 1 ≡ rows moveSize (log x)

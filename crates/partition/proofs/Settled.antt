@@ -5,6 +5,7 @@ use native.Mathlib.Omega.{arith}
 use contract.Lifetimes.{Lfts}
 use borrow.Fn.Kinds.{Dens, endedOf}
 use denote.Triple.Clauses.{AtExit}
+use Rattle.step1_rows.specs.Rows.{row}
 use Rattle.partition.specs.Alike.{Alike}
 use Rattle.partition.specs.declared.Partition.{Partition}
 use Rattle.partition.specs.declared.Stepped.{Stepped}
@@ -16,11 +17,12 @@ use Rattle.partition.proofs.Partition.step.Reads as step
 
 module _ (κs : Lfts 1) (a : Dens κs fresh-kinds.ps) (e f : AtExit (endedOf 1 fresh-kinds.ps fresh-kinds.r) κs) (x y : Partition) (s : fresh.Learnt κs a x e) (t : fresh.Learnt κs a y f) where
   pub fresh-settled : Alike x y
+  unfolding row
   fresh-settled =
       let S = s .stands in
       let T = t .stands in
       alike x y (record { wide = omega (arith, s .width); held = S .held }) (record { wide = omega (arith, t .width); held = T .held })
-      (S .long ∙ sym (T .long)) (s .width ∙ sym (t .width)) (S .names ∙ sym (T .names)) (S .flags ∙ sym (T .flags))
+      (S .long ∙ sym (T .long)) (s .width ∙ sym (t .width)) (S .names ∙ sym (T .names)) (S .flags-are ∙ sym (T .flags-are))
 
 module _ (κs : Lfts 0) (a : Dens κs step-kinds.ps) (e f : AtExit (endedOf 0 step-kinds.ps step-kinds.r) κs) (x y : Stepped) (s : step.Learnt κs a x e) (t : step.Learnt κs a y f) where
   pub count-settled : x .moves ≡ y .moves

@@ -4,8 +4,8 @@ use Prim.Native.Nat.{ℕ}
 use mathlib.Core.Path.{_≡_}
 use mathlib.Core.List.{List, List·Memᴰ}
 use Rattle.words.specs.Reads.{at}
-use Rattle.step_distances.specs.Lists.{Place}
-use Rattle.step_distances.specs.Walk.{walk}
+use Rattle.step3_lists.specs.Lists.{Place}
+use Rattle.step3_lists.specs.Walk.{walk}
 use Rattle.partition.specs.declared.Partition.{Partition}
 
 -- the positions on the list of the distance d, in its order
@@ -18,7 +18,6 @@ pub record Alike (p q : Partition) : Type 0 where
   pub width : p .width ≡ q .width
   pub name : p .name ≡ q .name
   pub small : p .small ≡ q .small
-  pub block : p .block ≡ q .block
   pub size : p .size ≡ q .size
   pub prev : p .prev ≡ q .prev
   pub dist : p .dist ≡ q .dist

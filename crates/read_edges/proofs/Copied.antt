@@ -7,7 +7,7 @@ use native.Mathlib.Omega.{arith}
 use lib.ListN.{length, getD, set, take, drop}
 use lib.Seq.{drop-cons, take-suc, set-at, append-snoc, length-take-le}
 use Rattle.words.specs.Reads.{at}
-use Rattle.step_slots.specs.Slots.{view}
+use Rattle.slots.specs.Slots.{view}
 
 module _ (name out : List ℕ) where
   pub copied-none : out ≡ view 0 name ++ drop 0 out

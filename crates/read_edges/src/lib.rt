@@ -5,9 +5,9 @@ ghost use mathlib.Core.List.{_++_};
 ghost use Prim.Native.Nat.{_≤_};
 ghost use lib.ListN.{length, drop};
 ghost use Rattle.words.specs.Moves.{topOf};
-ghost use Rattle.step_slots.specs.Slots.{view};
-use step_slots::load;
-use step_slots::wide;
+ghost use Rattle.slots.specs.Slots.{view};
+use slots::load;
+use slots::wide;
 
 // the most bytes that a read may have
 pub const MOST: usize = 1000;

@@ -3,7 +3,7 @@
 ghost use mathlib.Core.Path.{_≡_};
 ghost use Prim.Native.Nat.{_+_, _*_, _≤_, _<_};
 ghost use lib.ListN.{length, replicate};
-ghost use Rattle.words.specs.Rows.{widest, rows, row as rowOf, cell as cellOf, part as partOf};
+ghost use Rattle.words.specs.Rows.{widest, rows, cell as cellOf, part as partOf};
 ghost use Rattle.row_cells.specs.Stored.{stored};
 ghost use Rattle.row_cells.specs.Listing.{many, Adds};
 

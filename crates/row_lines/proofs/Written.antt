@@ -1,6 +1,6 @@
 -- A line as the code writes it. Only this file and `Compared` open a line for the code. Assumes nothing.
 use Prim.Native.Nat.{ℕ, _+_}
-use mathlib.Core.Path.{_≡_, refl, subst}
+use mathlib.Core.Path.{_≡_, refl}
 use mathlib.Core.List.{List, [], _∷_}
 use lib.ListN.{length}
 use Rattle.words.specs.Lists.{lineOf, lineSize, periodCell}

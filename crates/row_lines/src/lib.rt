@@ -9,7 +9,7 @@ ghost use Rattle.words.specs.Lists.{lineOf, lineSize, periodCell};
 ghost use Rattle.row_cells.specs.Listing.{many, Adds};
 use row_cells::add;
 use row_cells::count;
-use step_slots::wide;
+use slots::wide;
 
 pub fn line_size() -> usize
     ensures { λ r. ⌜ r ≡ lineSize ⌝ }

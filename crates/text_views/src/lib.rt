@@ -17,7 +17,7 @@ use row_lines::line_size;
 use row_moves::entries;
 use row_moves::name_of;
 use row_moves::place_of;
-use step_slots::wide;
+use slots::wide;
 use text_puts::put_number;
 use text_puts::put_numbers;
 use text_puts::put_word;

@@ -3,6 +3,7 @@
 ghost use mathlib.Core.Path.{_≡_};
 ghost use Prim.Native.Nat.{_+_, _≤_, _<_};
 ghost use lib.ListN.{length};
+ghost use Rattle.step2_bits.specs.Sets.{Sound};
 ghost use Rattle.partition.specs.Stand.{Good};
 use libc::STDIN_FILENO;
 use libc::STDOUT_FILENO;
@@ -29,27 +30,19 @@ fn names(name: &[u16; 1000], n: u16)
     let mut i: u16 = 0;
     while i < n {
         i += 1;
-        spaced(step_slots::load(name, i));
+        spaced(slots::load(name, i));
     }
 }
 
-// i, if it is flagged
-fn flagged(small: &[u16; 1000], i: u16)
-    requires { ⌜ (1 ≤ i) × (i ≤ 1000) ⌝ }
+// the places of a set, from the least on
+fn members(given: [u64; 17])
+    requires { ⌜ Sound given ⌝ }
 {
-    if step_slots::load(small, i) == 1 {
-        spaced(i);
-    }
-}
-
-// the places of 1 to n that are flagged
-fn flags(small: &[u16; 1000], n: u16)
-    requires { ⌜ n ≤ 1000 ⌝ }
-{
-    let mut i: u16 = 0;
-    while i < n {
-        i += 1;
-        flagged(small, i);
+    let mut set = given;
+    let mut s = step2_bits::take_least(&mut set);
+    while 0 < s {
+        spaced(s);
+        s = step2_bits::take_least(&mut set);
     }
 }
 
@@ -68,7 +61,7 @@ fn width(p: Partition) -> Stepped
     word(b"\n");
     number(w);
     word(b" small");
-    flags(&small, n);
+    members(small);
     word(b"\n");
     let s = p.step();
     number(w);

@@ -9,7 +9,7 @@ use native.Mathlib.Nat.{add-div-left, mul-div-right, mul-add-div, zero-div, eq-o
 use lib.ListN.{length, getD, take, drop, length-append, length-drop}
 use lib.Seq.{getD-take, getD-drop, take-at, take-append-le, drop-append-le, drop-append-add}
 use Rattle.words.specs.Range.{gather}
-use Rattle.words.specs.Rows.{rows, row, cell, part}
+use Rattle.words.specs.Rows.{rows, row, cell}
 use Rattle.words.proofs.Ranges.{append-nil}
 
 module _ (c : ℕ) where

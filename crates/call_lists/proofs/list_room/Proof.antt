@@ -1,21 +1,114 @@
--- `call_lists::list_room` meets its contract: the partition's arrays stand for the read at width 1. Assumes nothing.
-use Rattle.step_refine.proofs.Zeros.{zeros-clean}
-use Rattle.partition.proofs.Fresh.{scratch-zeros}
+-- `call_lists::list_room` meets its contract. The loop's invariant has two statements: the walk has come to width p, and the lines of the periods below p are
+-- written; the measure is how many widths are left. Assumes nothing.
+use Prim.Native.Nat.{_+_, _-_, _*_, _≤_}
+use mathlib.Core.Path.{_≡_, refl}
+use native.Mathlib.Omega.{arith}
+use lib.ListN.{length}
 use borrow.Author.Needs.{needs}
+use Rattle.words.specs.Lists.{lineSize}
+use Rattle.words.specs.Moves.{topOf}
+use Rattle.words.proofs.Sizes.{top-some, top-few}
+use Rattle.row_cells.specs.Listing.{Listing}
+use Rattle.refine.proofs.Zeros.{zeros-clean}
+use Rattle.step1_rows.specs.Rows.{row}
+use Rattle.step2_bits.specs.Sets.{flags, Sound, Empty}
+use Rattle.steps.specs.Walk.{Walks}
+use Rattle.steps.proofs.Begins.{begin-asks}
+use Rattle.steps.proofs.Walks.{walks-begin, walks-on}
+use Rattle.call_lists.proofs.Onward.{held-near, upTo, listing-none, listing-more, listing-on, listing-whole}
 use Rattle.call_lists.proofs.list_room.Statement.{statement}
 use Rattle.call_lists.proofs.list_room.Tie as tie
 
-fresh-requires : tie.Need-fresh-requires
-fresh-requires c κs = search needs
+abbrev Inv-loop : tie.InvT-loop
+Inv-loop out₀ read mode n a₀ small₀ found₀ count₀ top p₀ k₀ out a small found count p k =
+    Walks read n p top a small × Listing lineSize out₀ (upTo read mode (p - 1)) k out
+    × (top ≡ topOf n) × (p ≤ top + 1) × (k ≤ 1000 * (p - 1)) × (length count ≡ 1000) × Sound found × Empty (flags found)
 
-all-lines-requires : tie.Need-all-lines-requires
-all-lines-requires c κs = (c .before .before .before .before .before .before .before .before .before .before .before .before .before .before .before .before .before .before .before .before .before .before .before .before .before .before .fresh .ensures .stands .held, scratch-zeros, zeros-clean .long)
+abbrev μ-loop : tie.MeasureT-loop
+μ-loop out₀ read mode n a₀ small₀ found₀ count₀ top p₀ k₀ out a small found count p k = top + 1 - p
 
-same-length : tie.Need-same-length
-same-length c = search needs
+cast-n : tie.Need-cast-n Inv-loop μ-loop
+cast-n c = search needs
 
-returns : tie.Need-returns
-returns c = c .before .before .all-lines .ensures _ (c .before .before .before .before .before .before .before .before .before .before .before .before .before .before .before .before .before .before .before .before .before .before .before .before .before .before .before .before .before .fresh .ensures .stands)
+begin-requires : tie.Need-begin-requires Inv-loop μ-loop
+begin-requires c κs = (search needs, search needs, begin-asks .0, begin-asks .1, begin-asks .2)
+
+top-of-requires : tie.Need-top-of-requires Inv-loop μ-loop
+top-of-requires c κs = search needs
+
+loop-holds : tie.Need-loop-holds Inv-loop μ-loop
+loop-holds c =
+    let S = c .before .begin .ensures in
+    let e = c .top-of .ensures in
+    (walks-begin _ _ _ _ _ (omega (arith, e, top-some (length (c .before .before .before .before .before .before .args .read .now)))) S, listing-none _ _ _, e, search needs, omega arith, zeros-clean .long, begin-asks .1, begin-asks .2)
+
+starts-requires : tie.Need-starts-requires Inv-loop μ-loop
+starts-requires c κs =
+    let I = c .before .before .before .loop .inv in
+    let H = I .0 .held in
+    (H .long, H .lists, I .6, I .7, I .0 .low, omega (arith, I .2, c .before .before .loop-test .taken, top-few _ (H .few)))
+
+index-1-lines-at : tie.Need-index-1-lines-at Inv-loop μ-loop
+index-1-lines-at c = search needs
+
+lines-at-requires : tie.Need-lines-at-requires Inv-loop μ-loop
+unfolding row
+lines-at-requires c κs =
+    let I = c .before .before .before .before .before .before .before .before .loop .inv in
+    let H = I .0 .held in
+    let E = c .before .before .before .before .starts .ensures in
+    (held-near _ _ _ H _ (I .0 .low), E .0, E .1, omega (arith, I .2, I .4, c .before .before .before .before .before .before .before .loop-test .taken, top-few _ (H .few)), I .5)
+
+onward-requires : tie.Need-onward-requires Inv-loop μ-loop
+onward-requires c κs =
+    let I = c .before .before .before .before .before .before .before .before .before .before .before .before .before .loop .inv in
+    (I .0 .held, I .0 .low, omega (arith, c .before .before .before .before .before .before .before .before .before .before .before .before .loop-test .taken), omega (arith, I .2, top-few _ (I .0 .held .few)))
+
+loop-less : tie.Need-loop-less Inv-loop μ-loop
+loop-less c = omega (arith, c .onward .ensures .1, c .before .before .before .before .before .before .before .before .before .before .before .before .before .loop-test .taken)
+
+loop-again : tie.Need-loop-again Inv-loop μ-loop
+unfolding row
+loop-again c =
+    let I = c .before .before .before .before .before .before .before .before .before .before .before .before .before .before .loop .inv in
+    let W = I .0 in
+    let S = W .here (omega (arith, c .before .before .before .before .before .before .before .before .before .before .before .before .before .loop-test .taken)) in
+    let L = c .before .before .before .before .before .lines-at .ensures in
+    let O = c .onward .ensures in
+    let N = O .3 _ S in (
+      walks-on _ _ _ _ _ _ _ (omega (arith, O .1)) (O .0) N,
+      listing-on _ _ _ _ _ _ _ _ _ _ _ (O .1) (O .2) N (listing-more _ _ _ _ _ _ _ _ _ _ _ (W .low) S (I .1) (L .0)),
+      I .2,
+      O .2,
+      omega (arith, L .1, I .4, O .1, W .low),
+      L .2,
+      L .3,
+      L .4,
+    )
+
+same-length : tie.Need-same-length Inv-loop μ-loop
+same-length c = c .before .loop .inv .1 .same
+
+returns : tie.Need-returns Inv-loop μ-loop
+returns c =
+    let I = c .before .loop .inv in
+    listing-whole _ _ _ _ _ _ _ refl (omega (arith, I .2, c .loop-test .left)) (omega (arith, I .2, I .3)) (I .1)
 
 pub list-room-spec : {M : Type 1} → statement M
-list-room-spec = tie.close (tie.spec fresh-requires all-lines-requires same-length returns)
+list-room-spec =
+    tie.close
+    (tie.spec
+    Inv-loop
+    μ-loop
+    cast-n
+    begin-requires
+    top-of-requires
+    loop-holds
+    starts-requires
+    index-1-lines-at
+    lines-at-requires
+    onward-requires
+    loop-less
+    loop-again
+    same-length
+    returns)

@@ -8,6 +8,7 @@ use lib.ListN.{length}
 use borrow.Author.Needs.{needs}
 use Rattle.words.specs.Moves.{moveSize}
 use Rattle.row_cells.specs.Stored.{stored}
+use Rattle.step1_rows.specs.Rows.{row, NAME, QUE}
 use Rattle.call_moves.specs.Queued.{movesTo}
 use Rattle.row_cells.proofs.Stored.{stored-length}
 use Rattle.call_moves.proofs.Stores.{moves-to-begin, moves-to-more}
@@ -15,11 +16,11 @@ use Rattle.call_moves.proofs.write_moves.Statement.{statement}
 use Rattle.call_moves.proofs.write_moves.Tie as tie
 
 abbrev Inv-loop : tie.InvT-loop
-Inv-loop out₀ k que name w m size q₀ at₀ out q at =
-    (q ≤ m) × (at ≡ moveSize * k + moveSize * q) × (length out ≡ length out₀) × (out ≡ stored out₀ (moveSize * k) (movesTo w name que q)) × (size ≡ moveSize)
+Inv-loop out₀ k a w m size q₀ at₀ out q at =
+    (q ≤ m) × (at ≡ moveSize * k + moveSize * q) × (length out ≡ length out₀) × (out ≡ stored out₀ (moveSize * k) (movesTo w (row a NAME) (row a QUE) q)) × (size ≡ moveSize)
 
 abbrev μ-loop : tie.MeasureT-loop
-μ-loop out₀ k que name w m size q₀ at₀ out q at = m - q
+μ-loop out₀ k a w m size q₀ at₀ out q at = m - q
 
 move-size-requires : tie.Need-move-size-requires Inv-loop μ-loop
 move-size-requires c κs = search needs
@@ -44,7 +45,7 @@ add-load : tie.Need-add-load Inv-loop μ-loop
 add-load c = omega (arith, loaded c)
 
 load-requires-2 : tie.Need-load-requires-2 Inv-loop μ-loop
-load-requires-2 c κs = (omega arith, omega (arith, loaded c))
+load-requires-2 c κs = (omega arith, omega arith, omega (arith, loaded c))
 
 put-move-requires : tie.Need-put-move-requires Inv-loop μ-loop
 put-move-requires c κs =

@@ -1,24 +1,75 @@
--- `call_periods::lines_at` meets its contract: the span holds every start. Assumes nothing.
-use Rattle.step_distances.proofs.Walks.{walk-ends}
-use borrow.Author.Needs.{needs}
+-- `call_periods::lines_at` meets its contract. The loop's invariant: the lines of the places before the next start are written, and the copies of their
+-- starts are kept; the measure is how many places are left. Assumes nothing.
+use Prim.Native.Nat.{_-_, _≤_}
+use mathlib.Core.Path.{_≡_}
+use native.Mathlib.Omega.{arith}
+use Rattle.step2_bits.specs.Sets.{flags, Sound}
+use Rattle.step2_bits.proofs.Flags.{flags-length}
+use Rattle.step2_bits.proofs.Emptying.{done, taken-empty, taken-less}
+use Rattle.call_periods.proofs.Turns.{Turn, turn-first, turn-few, turn-start, turn-counted, turn-next, turn-last}
 use Rattle.call_periods.proofs.lines_at.Statement.{statement}
 use Rattle.call_periods.proofs.lines_at.Tie as tie
 
-span-of-requires : tie.Need-span-of-requires
-span-of-requires c κs =
-    let P = c .before .pre in
-    (P .0 .some, P .1, walk-ends (P .2 .1) _ (P .0 .some, P .1))
+abbrev Inv-loop : tie.InvT-loop
+Inv-loop out₀ count₀ starts₀ dist mode p prior k₀ i₀ out count starts k i = Sound starts × Turn dist mode p prior out₀ i k out count (flags starts)
 
-scan-requires : tie.Need-scan-requires
-scan-requires c κs =
-    let P = c .before .before .before .before .pre in
-    (P .0, c .before .before .span-of .ensures _ _ (P .2 .1), P .3, P .4)
+abbrev μ-loop : tie.MeasureT-loop
+μ-loop out₀ count₀ starts₀ dist mode p prior k₀ i₀ out count starts k i = 1000 - done i
 
-same-length : tie.Need-same-length
-same-length c = search needs
+take-least-requires : tie.Need-take-least-requires Inv-loop μ-loop
+take-least-requires c κs = c .before .before .pre .1
 
-returns : tie.Need-returns
-returns c = search needs
+loop-holds : tie.Need-loop-holds Inv-loop μ-loop
+loop-holds c =
+    let P = c .before .before .before .pre in
+    let E = c .take-least .ensures in
+    (E .0, turn-first _ _ _ _ _ _ _ _ _ (flags-length _) (P .2) (E .1) (P .4) (E .2))
+
+line-one-requires : tie.Need-line-one-requires Inv-loop μ-loop
+line-one-requires c κs =
+    let P = c .before .before .before .before .before .before .before .pre in
+    let L = c .before .before .before .loop in
+    let T = L .inv .1 in
+    let h : 1 ≤ L .i = omega (arith, c .before .before .loop-test .taken) in
+    (P .0, h, T .taken .high, turn-start _ _ _ _ _ _ _ _ _ _ T h, omega (arith, turn-few _ _ _ _ _ _ _ _ _ _ T, P .3), turn-counted _ _ _ _ _ _ _ _ _ _ T h)
+
+take-least-requires-2 : tie.Need-take-least-requires-2 Inv-loop μ-loop
+take-least-requires-2 c κs = c .before .before .before .before .before .before .before .loop .inv .0
+
+loop-less : tie.Need-loop-less Inv-loop μ-loop
+loop-less c =
+    let L = c .before .before .before .before .before .before .before .before .loop in
+    taken-less _ _ _ (L .inv .1 .taken) (omega (arith, c .before .before .before .before .before .before .before .loop-test .taken)) _ (c .take-least2 .ensures .1)
+
+loop-again : tie.Need-loop-again Inv-loop μ-loop
+loop-again c =
+    let L = c .before .before .before .before .before .before .before .before .loop in
+    let E = c .take-least2 .ensures in
+    let O = c .before .before .before .before .line-one .ensures in
+    let h : 1 ≤ L .i = omega (arith, c .before .before .before .before .before .before .before .loop-test .taken) in
+    (E .0, turn-next _ _ _ _ _ _ _ _ _ _ (L .inv .1) _ _ _ _ _ h (O .0) (c .before .before .before .before .line-one .kept .0) (O .1) (O .2) (E .1) (E .2))
+
+same-length : tie.Need-same-length Inv-loop μ-loop
+same-length c = c .before .loop .inv .1 .same
+
+returns : tie.Need-returns Inv-loop μ-loop
+returns c =
+    let L = c .before .loop in
+    let T = L .inv .1 in
+    let e : L .i ≡ 0 = omega (arith, c .loop-test .left) in
+    (turn-last _ _ _ _ _ _ _ _ _ _ T e, turn-few _ _ _ _ _ _ _ _ _ _ T, T .counted .long, L .inv .0, taken-empty _ _ _ (T .taken) e)
 
 pub lines-at-spec : {M : Type 1} → statement M
-lines-at-spec = tie.close (tie.spec span-of-requires scan-requires same-length returns)
+lines-at-spec =
+    tie.close
+    (tie.spec
+    Inv-loop
+    μ-loop
+    take-least-requires
+    loop-holds
+    line-one-requires
+    take-least-requires-2
+    loop-less
+    loop-again
+    same-length
+    returns)

@@ -3,7 +3,7 @@
 use Prim.Native.Nat.{_-_, _≤_}
 use native.Mathlib.Omega.{arith}
 use borrow.Author.Needs.{needs}
-use Rattle.step_slots.specs.Slots.{view}
+use Rattle.slots.specs.Slots.{view}
 use Rattle.call_replays.specs.Split.{Renaming, Covered}
 use Rattle.call_replays.proofs.Turns.{covered-start, covered-nameable, covered-step, covered-end}
 use Rattle.call_replays.proofs.name_movers.Statement.{statement}

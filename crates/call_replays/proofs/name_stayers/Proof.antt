@@ -4,7 +4,7 @@ use Prim.Native.Nat.{_-_, _≤_}
 use mathlib.Core.Path.{_≡_}
 use native.Mathlib.Omega.{arith}
 use borrow.Author.Needs.{needs}
-use Rattle.step_slots.specs.Slots.{view}
+use Rattle.slots.specs.Slots.{view}
 use Rattle.call_replays.specs.Split.{Renaming, Unmarked}
 use Rattle.call_replays.proofs.Turns.{unmarked-start, unmarked-nameable, unmarked-step}
 use Rattle.call_replays.proofs.name_stayers.Statement.{statement}

@@ -5,7 +5,7 @@ use mathlib.Core.Path.{_≡_, sym, _∙_}
 use native.Mathlib.Omega.{arith}
 use lib.ListN.{length}
 use Rattle.words.specs.Replay.{replay}
-use Rattle.step_slots.specs.Slots.{view}
+use Rattle.slots.specs.Slots.{view}
 use Rattle.call_replays.specs.Split.{Splits}
 use Rattle.call_replays.proofs.Marked.{splits-start}
 use Rattle.words.proofs.Rule.{replay-start, replay-next}

@@ -5,7 +5,7 @@ use borrow.Author.Tests.{not-true}
 use Rattle.call_replays.proofs.Marked.{none-under, none-splits, marks-block}
 use Rattle.words.proofs.Rule.{after-still}
 use Rattle.call_replays.proofs.Widths.{split-after}
-use Rattle.step_refine.proofs.Zeros.{zeros-clean}
+use Rattle.refine.proofs.Zeros.{zeros-clean}
 use Rattle.call_replays.proofs.replay_width.Statement.{statement}
 use Rattle.call_replays.proofs.replay_width.Tie as tie
 

@@ -34,7 +34,9 @@ cast-write-table : tie.Need-cast-write-table
 cast-write-table c = omega (arith, width-is _ _ (width-fits (c .before .before)))
 
 write-table-requires : tie.Need-write-table-requires
-write-table-requires c κs = (search needs, search needs, width-is _ _ (width-fits (c .before .before)) .0)
+write-table-requires c κs =
+    let w = width-is _ _ (width-fits (c .before .before)) in
+    (search needs, search needs, w .0, omega (arith, w .1, c .before .before .before .before .if1 .left))
 
 same-length : tie.Need-same-length
 same-length c = search needs

@@ -1,35 +1,85 @@
--- `call_tables::write_table` meets its contract: the steps from a fresh partition reach width w, and its names are copied. Assumes nothing.
-use mathlib.Core.Path.{_∙_}
+-- `call_tables::write_table` meets its contract. The loop's invariant: the walk has come to width v; the measure is how many widths are left. Assumes
+-- nothing.
+use Prim.Native.Nat.{ℕ, _+_, _-_, _≤_}
+use mathlib.Core.Path.{ap, _∙_}
+use mathlib.Core.List.{List, _++_}
 use native.Mathlib.Omega.{arith}
+use lib.ListN.{length, drop}
 use borrow.Author.Needs.{needs}
-use Rattle.partition.proofs.Fresh.{scratch-zeros}
-use Rattle.call_tables.proofs.Copied.{copied-table}
+use Rattle.step1_rows.specs.Rows.{row}
+use Rattle.steps.specs.Walk.{Walks}
+use Rattle.steps.proofs.Begins.{begin-asks}
+use Rattle.steps.proofs.Walks.{walks-begin, walks-on, walks-reach}
 use Rattle.call_tables.proofs.write_table.Statement.{statement}
 use Rattle.call_tables.proofs.write_table.Tie as tie
 
-fresh-requires : tie.Need-fresh-requires
-fresh-requires c κs = search needs
+abbrev Inv-loop : tie.InvT-loop
+Inv-loop out read w n a₀ small₀ v₀ a small v = (v ≤ w + 1) × Walks read n v w a small
 
-steps-to-requires : tie.Need-steps-to-requires
-steps-to-requires c κs =
-    let f = c .before .before .before .before .before .before .before .before .before .before .before .before .before .before .before .before .before .before .before .before .before .before .before .before in
-    (f .fresh .ensures .stands .held, scratch-zeros, f .before .before .before .pre .2)
+abbrev μ-loop : tie.MeasureT-loop
+μ-loop out read w n a₀ small₀ v₀ a small v = w + 1 - v
 
-copy-names-requires : tie.Need-copy-names-requires
+cast-n : tie.Need-cast-n Inv-loop μ-loop
+cast-n c = search needs
+
+begin-requires : tie.Need-begin-requires Inv-loop μ-loop
+begin-requires c κs = (search needs, search needs, begin-asks .0, begin-asks .1, begin-asks .2)
+
+loop-holds : tie.Need-loop-holds Inv-loop μ-loop
+loop-holds c =
+    let P = c .before .before .before .before .before .pre in
+    (search needs, walks-begin _ _ _ _ _ (P .2) (c .begin .ensures))
+
+onward-requires : tie.Need-onward-requires Inv-loop μ-loop
+onward-requires c κs =
+    let W = c .before .before .before .loop .inv .1 in
+    let P = c .before .before .before .before .before .before .before .before .before .pre in
+    (W .held, W .low, omega (arith, c .before .before .loop-test .taken), P .3)
+
+loop-less : tie.Need-loop-less Inv-loop μ-loop
+loop-less c =
+    let O = c .onward .ensures in
+    omega (arith, O .1, c .before .before .before .loop-test .taken)
+
+loop-again : tie.Need-loop-again Inv-loop μ-loop
+loop-again c =
+    let W = c .before .before .before .before .loop .inv .1 in
+    let O = c .onward .ensures in
+    (O .2, walks-on _ _ _ _ _ _ _ (omega (arith, O .1)) (O .0) (O .3 _ (W .here (omega (arith, c .before .before .before .loop-test .taken)))))
+
+index-1-copy-names : tie.Need-index-1-copy-names Inv-loop μ-loop
+index-1-copy-names c = search needs
+
+copy-names-requires : tie.Need-copy-names-requires Inv-loop μ-loop
+unfolding row
 copy-names-requires c κs =
-    let f = c .before .before .before .before .before .before .before .before .before .before .before .before .before .before .before .before .before .before .before .before .before .before .before .before .before .before .before in
-    let S = c .before .before .steps-to .ensures .stands _ (f .fresh .ensures .stands) in
-    (S .held .few, omega (arith, S .long, f .before .before .before .pre .1), S .held .name-long)
+    let W = c .before .before .before .loop .inv .1 in
+    let P = c .before .before .before .before .before .before .before .before .before .pre in
+    (P .0, search needs, W .held .long .each 0 (omega arith))
 
-same-length : tie.Need-same-length
+same-length : tie.Need-same-length Inv-loop μ-loop
 same-length c = search needs
 
-returns : tie.Need-returns
+returns : tie.Need-returns Inv-loop μ-loop
+unfolding row
 returns c =
-    let f = c .before .before .before .before .before .before .before .before .before .before .before .before .before .before .before .before .before .before .before .before .before .before .before .before .before .before .before .before .before .before in
-    let S = c .before .before .before .before .before .steps-to .ensures .stands _ (f .fresh .ensures .stands) in
-    c .before .before .copy-names .ensures ∙ copied-table _ _ _ _ _ (S .names) (S .long)
+    let S = walks-reach _ _ _ _ _ _ (omega (arith, c .before .before .before .before .before .loop-test .left)) (c .before .before .before .before .before .before .loop .inv .1) in
+    let s = c .before .before .before .before .before .before .before .before .before .before .before .before in
+    c .before .before .copy-names .ensures ∙ ap (λ (t : List ℕ). t ++ drop (length (s .args .read .now)) (s .args .out .now)) (S .names)
 
 pub write-table-spec : {M : Type 1} → statement M
 write-table-spec =
-    tie.close (tie.spec fresh-requires steps-to-requires copy-names-requires same-length returns)
+    tie.close
+    (tie.spec
+    Inv-loop
+    μ-loop
+    cast-n
+    begin-requires
+    loop-holds
+    onward-requires
+    loop-less
+    loop-again
+    index-1-copy-names
+    copy-names-requires
+    same-length
+    returns)

@@ -6,7 +6,7 @@ use mathlib.Core.List.{_++_}
 use native.Mathlib.Omega.{arith}
 use lib.ListN.{length, drop, length-set}
 use borrow.Author.Needs.{needs}
-use Rattle.step_slots.specs.Slots.{view}
+use Rattle.slots.specs.Slots.{view}
 use Rattle.read_edges.proofs.Copied.{copied-none, copied-more}
 use Rattle.read_edges.proofs.copy_names.Statement.{statement}
 use Rattle.read_edges.proofs.copy_names.Tie as tie

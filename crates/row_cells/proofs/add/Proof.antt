@@ -1,5 +1,4 @@
 -- `row_cells::add` meets its contract: the row that it puts is the next one. Assumes nothing.
-use Prim.Native.Nat.{_*_, _≤_}
 use native.Mathlib.Omega.{arith}
 use native.Mathlib.Nat.{mul-le-mul}
 use borrow.Author.Needs.{needs}

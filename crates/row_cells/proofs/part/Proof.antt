@@ -1,5 +1,4 @@
 -- `row_cells::part` meets its contract: whole rows lie in the slice. Assumes nothing.
-use Prim.Native.Nat.{_*_, _≤_}
 use mathlib.Core.Path.{refl}
 use native.Mathlib.Omega.{arith}
 use native.Mathlib.Nat.{mul-le-mul-left}

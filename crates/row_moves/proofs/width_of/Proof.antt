@@ -1,6 +1,5 @@
 -- `row_moves::width_of` meets its contract: the number at its place. Assumes nothing.
 use mathlib.Core.Path.{_∙_}
-use native.Mathlib.Omega.{arith}
 use borrow.Author.Needs.{needs}
 use Rattle.words.proofs.MoveLayout.{width-inside, width-cell}
 use Rattle.row_moves.proofs.width_of.Statement.{statement}

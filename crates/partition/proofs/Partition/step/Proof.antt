@@ -1,13 +1,10 @@
--- `step` meets its contract: nothing at width n, and else what `advance` leaves. Assumes nothing.
-use mathlib.Core.Path.{refl, sym, ap, _∙_}
+-- `Partition::step` meets its contract: nothing at width n, and else what a step of its rows leaves. Assumes nothing.
+use mathlib.Core.Path.{refl, sym}
 use native.Mathlib.Omega.{arith}
-use native.Mathlib.Numerals.{add-one}
-use Rattle.words.specs.Groups.{partsSmall}
-use Rattle.partition.specs.Stand.{groups, smallOnes}
-use Rattle.partition.proofs.Turn.{held-long}
-use Rattle.partition.proofs.Steps.{step-still, step-on}
-use Rattle.partition.proofs.Fresh.{scratch-zeros}
 use borrow.Author.Needs.{needs}
+use Rattle.partition.specs.Stand.{groups, smallOnes}
+use Rattle.partition.proofs.Steps.{step-still}
+use Rattle.partition.proofs.Stepping.{good-long, stepped}
 use Rattle.partition.proofs.Partition.step.Statement.{statement}
 use Rattle.partition.proofs.Partition.step.Tie as tie
 
@@ -15,31 +12,29 @@ returns : tie.Need-returns
 returns c =
     let s = c .before in
     let p = s .args .self in
-    let e = step-still (p .width) (groups p) (smallOnes p) (omega (arith, c .if1 .taken, held-long _ _ _ _ _ _ _ _ _ _ (s .pre .held))) in
+    let e = step-still (p .width) (groups p) (smallOnes p) (omega (arith, c .if1 .taken, good-long p (s .pre))) in
     (s .pre, refl, sym (e .0), sym (e .1), sym (e .2), sym (e .3), λ h. refl)
 
-advance-requires : tie.Need-advance-requires
-advance-requires c κs = (c .before .before .before .before .before .before .before .before .before .before .before .before .before .before .before .before .before .before .before .before .before .before .before .before .before .pre .held, scratch-zeros)
+rows-of-requires : tie.Need-rows-of-requires
+rows-of-requires c κs = search needs
 
-add-self : tie.Need-add-self
-add-self c = search needs
+advance-requires : tie.Need-advance-requires
+advance-requires c κs =
+    let s = c .before .before .before .before .before in
+    rw (c .before .before .rows-of .ensures) (s .pre .held)
+
+add-kept : tie.Need-add-kept
+add-kept c = search needs
+
+kept-requires : tie.Need-kept-requires
+kept-requires c κs = search needs
 
 returns-2 : tie.Need-returns-2
 returns-2 c =
-    let s = c .before .before .before .before .before .before .before .before .before .before .before .before .before .before .before .before .before .before .before .before .before .before .before .before .before .before in
-    let H = s .pre .held in
-    let A = c .advance .ensures in
-    let p = s .args .self in
-    let l = c .before .before .before .before .before .before .before .before .before .before .before .before .before .before .before .before .before .before .before .before .before .before .before .before .before .if1 .left in
-    let e = step-on (p .width) (groups p) (smallOnes p) (omega (arith, l, held-long _ _ _ _ _ _ _ _ _ _ H)) (H .least) in (
-      record { wide = omega arith; held = A .held },
-      refl,
-      add-one _ ∙ sym (e .0),
-      A .names ∙ sym (e .1),
-      A .flags ∙ ap (partsSmall (groups p)) (A .names) ∙ sym (e .2),
-      A .moves ∙ sym (e .3),
-      λ h. absurd (omega (arith, h, l)),
-    )
+    let s = c .before .before .before .before .before .before .before .before in
+    let l = c .before .before .before .before .before .before .before .if1 .left in
+    let S = stepped _ _ _ _ _ _ (s .pre) (omega (arith, l)) (c .before .before .before .before .before .rows-of .ensures) (c .before .before .advance .ensures) (c .kept .ensures) in
+    (S .0, S .1, S .2, S .3, S .4, S .5, λ h. absurd (omega (arith, h, l)))
 
 pub step-spec : {M : Type 1} → statement M
-step-spec = tie.close (tie.spec returns advance-requires add-self returns-2)
+step-spec = tie.close (tie.spec returns rows-of-requires advance-requires add-kept kept-requires returns-2)

@@ -1,0 +1,49 @@
+/* Makes one call on each line of standard input as often as the second argument says. Its instructions less those of 0 rounds are those of the call
+   alone: what a call is handed is made before. */
+#include "../c/sorunggyeo.h"
+#include <stdio.h>
+#include <stdlib.h>
+#include <string.h>
+#include <unistd.h>
+
+enum { MOST = SORUNGGYEO_MOST, ALL = 3 * MOST * MOST / 2 };
+static uint8_t in[1 << 20];
+static uint16_t out[3 * 10000], log_[ALL];
+static size_t numbers;
+
+/* the read's own log */
+static void own(const uint8_t *x, size_t n) { numbers = 3 * sorunggyeo_log(x, n, log_, ALL).value; }
+
+/* a log in which all positions move at all widths */
+static void all(const uint8_t *x, size_t n)
+{
+    (void)x;
+    numbers = 0;
+    for (size_t w = 1; w < n / 2; w++)
+        for (size_t i = 1; i < n; i++, numbers += 3)
+            log_[numbers] = w, log_[numbers + 1] = 1, log_[numbers + 2] = i;
+}
+
+static void nothing(const uint8_t *x, size_t n) { (void)x, (void)n; }
+static void list(const uint8_t *x, size_t n) { sorunggyeo_list(x, n, 0, out, 3 * 10000); }
+static void table(const uint8_t *x, size_t n) { sorunggyeo_group_table(x, n, n / 2, out, MOST); }
+static void replay(const uint8_t *x, size_t n) { sorunggyeo_replay(x, n, log_, numbers, n / 2, out, MOST); }
+static void claim(const uint8_t *x, size_t n) { sorunggyeo_claim(x, n, 1, n / 2, 2); }
+
+static const struct { const char *name; void (*before)(const uint8_t *, size_t), (*call)(const uint8_t *, size_t); } calls[] = {
+    {"list", nothing, list}, {"table", nothing, table}, {"log", nothing, own}, {"replay", own, replay}, {"replay_all", all, replay},
+    {"claim", nothing, claim}};
+
+int main(int argc, char **argv)
+{
+    long rounds = argc > 2 ? atol(argv[2]) : 0;
+    size_t n = 0;
+    for (ssize_t got; (got = read(0, in + n, sizeof in - n)) > 0;) n += got;
+    for (size_t k = 0; k < sizeof calls / sizeof *calls; k++)
+        if (argc > 1 && !strcmp(calls[k].name, argv[1]))
+            for (uint8_t *at = in, *stop; at < in + n && (stop = memchr(at, '\n', in + n - at)); at = stop + 1) {
+                calls[k].before(at, stop - at);
+                for (long r = 0; r < rounds; r++) calls[k].call(at, stop - at);
+            }
+    return 0;
+}

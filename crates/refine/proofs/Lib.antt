@@ -1,0 +1,11 @@
+pub mod Queues
+pub mod Next
+pub mod Links
+pub mod Moved
+pub mod Zeros
+pub mod Count
+pub mod Queue
+pub mod QueueMoves
+pub mod Lengths
+pub mod Steps
+pub mod Leaving

@@ -1,0 +1,4 @@
+pub mod Refine
+pub mod Links
+pub mod Phases
+pub mod Leaving

@@ -1,0 +1,9 @@
+pub mod Links
+pub mod Ranks
+pub mod Heads
+pub mod Taken
+pub mod Placed
+pub mod Changed
+pub mod Rows
+pub mod Walks
+pub mod Seen

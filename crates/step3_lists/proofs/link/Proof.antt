@@ -1,0 +1,52 @@
+-- `link` meets its contract: the law `redone-in`, once what the load and the stores ensure is put in. Assumes nothing.
+use mathlib.Core.Path.{sym}
+use native.Mathlib.Omega.{arith}
+use borrow.Author.Needs.{needs}
+use Rattle.step3_lists.proofs.Heads.{head-within}
+use Rattle.step3_lists.proofs.Rows.{redone-in}
+use Rattle.step3_lists.proofs.link.Statement.{statement}
+use Rattle.step3_lists.proofs.link.Tie as tie
+
+load-requires : tie.Need-load-requires
+load-requires c κs = search needs
+
+store-dist-requires : tie.Need-store-requires
+store-dist-requires c κs = search needs
+
+store-before-requires : tie.Need-store-requires-2
+store-before-requires c κs = search needs
+
+store-after-requires : tie.Need-store-requires-3
+store-after-requires c κs = search needs
+
+store-head-requires : tie.Need-store-requires-4
+store-head-requires c κs = search needs
+
+store-some-requires : tie.Need-store-some-requires
+store-some-requires c κs =
+    let l = c .before .before .before .before .before .before .before .before .before in
+    let s = l .before .before .pre in
+    (omega arith, rw (l .load .ensures) (head-within (s .1) _ (s .5, omega (arith, s .6))))
+
+returns : tie.Need-returns
+returns c =
+    let head = c .before .before in
+    let after = head .before .before in
+    let before = after .before .before in
+    let dist = before .before .before in
+    let l = dist .before .before in
+    let s = l .before .before .pre in
+    rw (c .store-some .ensures, head .store4 .ensures, after .store3 .ensures, before .store2 .ensures, dist .store .ensures)
+    (redone-in _ (s .0) (s .1) _ (s .2) (s .3) _ _ (s .5) (s .6) (sym (l .load .ensures)) (s .4))
+
+pub link-spec : {M : Type 1} → statement M
+link-spec =
+    tie.close
+    (tie.spec
+    load-requires
+    store-dist-requires
+    store-before-requires
+    store-after-requires
+    store-head-requires
+    store-some-requires
+    returns)

@@ -1,0 +1,4 @@
+pub mod Lefts
+pub mod Growing
+pub mod Walks
+pub mod Passing

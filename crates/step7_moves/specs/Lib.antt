@@ -1,0 +1,4 @@
+pub mod Relink
+pub mod Parted
+pub mod Moves
+pub mod Moving

@@ -1,0 +1,5 @@
+pub mod Sweeps
+pub mod Stays
+pub mod Turning
+pub mod Stores
+pub mod Grouping

@@ -1,4 +1,0 @@
-pub mod Parts
-pub mod Turns
-pub mod Choosing
-pub mod Flagging

@@ -1,2 +1,0 @@
-pub mod Choose
-pub mod Flag

@@ -1,9 +1,0 @@
-pub mod Links
-pub mod Ranks
-pub mod Heads
-pub mod Taken
-pub mod Placed
-pub mod Changed
-pub mod Filled
-pub mod Walks
-pub mod Seen

@@ -1,5 +1,0 @@
-pub mod Letters
-pub mod Stores
-pub mod Neighbours
-pub mod Linking
-pub mod Counting

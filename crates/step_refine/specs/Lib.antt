@@ -1,3 +1,0 @@
-pub mod Refine
-pub mod Links
-pub mod Phases

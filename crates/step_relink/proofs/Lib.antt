@@ -1,4 +1,0 @@
-pub mod Stores
-pub mod OneMove
-pub mod Codes
-pub mod Turns

@@ -1,4 +1,0 @@
-pub mod Stayers
-pub mod Walk
-pub mod Turns
-pub mod Arrays

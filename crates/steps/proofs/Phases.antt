@@ -1,0 +1,170 @@
+-- One width: what each phase leaves is what the next one asks, and what the last leaves are groups again. Assumes nothing.
+use Prim.Native.Nat.{ℕ, _≤_, _<_}
+use mathlib.Core.Path.{_≡_, refl, sym, ap, subst, _∙_}
+use mathlib.Core.Logic.{_⊎_, inl, inr}
+use mathlib.Core.Bool.{Bool, true, false, _&&_, not}
+use mathlib.Core.List.{List, [], _∷_}
+use native.Mathlib.Omega.{arith}
+use lib.ListN.{length}
+use lib.Dec.{eqb}
+use borrow.Author.Tests.{eqb-true}
+use Rattle.words.specs.Range.{bit}
+use Rattle.words.specs.Reads.{at}
+use Rattle.words.specs.Groups.{big, partsSmall}
+use Rattle.words.proofs.Tests.{and-left, lt-or-ge}
+use Rattle.words.proofs.Small.{parts-small-at, parts-small-length}
+use Rattle.slots.specs.Slots.{view}
+use Rattle.slots.proofs.Laws.{view-length, view-is}
+use Rattle.step1_rows.specs.Rows.{row, Long, Only, among, NAME, SIZE, PREV, DIST, HEAD, AFTER, BEFORE, QUE, TAIL, REST, MANY}
+use Rattle.step1_rows.proofs.Laws.{only-row}
+use Rattle.step2_bits.specs.Sets.{flags, Sound, Empty}
+use Rattle.step3_lists.specs.Listed.{Listed}
+use Rattle.refine.specs.Refine.{queue, nextOf}
+use Rattle.refine.specs.Phases.{FlagsOf, Flagged}
+use Rattle.refine.specs.Leaving.{leaving, Known}
+use Rattle.refine.proofs.Next.{next-length, next-least}
+use Rattle.refine.proofs.Queue.{queue-lined}
+use Rattle.refine.proofs.Lengths.{queue-length, queue-short}
+use Rattle.refine.proofs.Leaving.{leaving-lined, leaving-next}
+use Rattle.step7_moves.specs.Moves.{Moved}
+use Rattle.step8_groups.specs.Groups.{Turnable, Regrouped}
+use Rattle.step9_parts.specs.Parts.{Turned}
+use Rattle.steps.specs.Held.{Held, Queued, Refined, Advanced}
+
+-- flags of parts are flags of names
+flags-of-parts : (t u small : List ℕ) → length u ≤ 1000 → Flagged (partsSmall t u) small → FlagsOf u small
+flags-of-parts t u small few F = record { long = F .long; flag = λ s a b. flag s a b (lt-or-ge (length u) s) }
+  where
+    one : (s : ℕ) → s ≤ length u → (b : Bool) → at small s ≡ bit (eqb (at u s) s && b) → (at small s ≡ 0) ⊎ ((at small s ≡ 1) × (s ≤ length u) × (at u s ≡ s))
+    one s c b e = go (eqb (at u s) s && b) refl
+      where
+        go : (v : Bool) → eqb (at u s) s && b ≡ v → (at small s ≡ 0) ⊎ ((at small s ≡ 1) × (s ≤ length u) × (at u s ≡ s))
+        go true q = inr (e ∙ ap bit q, c, eqb-true (at u s) s (and-left (eqb (at u s) s) b q))
+        go false q = inl (e ∙ ap bit q)
+
+    flag : (s : ℕ) → 1 ≤ s → s ≤ 1000 → (length u < s) ⊎ (s ≤ length u) → (at small s ≡ 0) ⊎ ((at small s ≡ 1) × (s ≤ length u) × (at u s ≡ s))
+    flag s a b (inl l) = inl (F .rest s (omega (arith, parts-small-length u t)) b)
+    flag s a b (inr l) = one s l (not (big t u s)) (F .held s a (omega (arith, parts-small-length u t)) ∙ parts-small-at u t s a l)
+
+-- lists by distance stay where their rows do
+lists-same : (a b : List (List ℕ)) → row b DIST ≡ row a DIST → row b HEAD ≡ row a HEAD → row b AFTER ≡ row a AFTER → row b BEFORE ≡ row a BEFORE → Listed a → Listed b
+lists-same a b d h f e L = rw (d, h, f, e) L
+
+module _ (n : ℕ) (a : List (List ℕ)) (small : List ℕ) (H : Held n a small) where
+  abbrev t : List ℕ
+  t = view n (row a NAME)
+
+  abbrev due : List ℕ
+  due = queue t (view n (flags small))
+
+  -- the table is as long as the read
+  pub held-long : length t ≡ n
+  held-long = view-length n (row a NAME) (omega (arith, H .few, H .long .each 0 (omega arith)))
+
+  -- once the queue of the width is made, it can be moved
+  module _ (m : ℕ) (b : List (List ℕ)) (w : List ℕ) (L : Long b) (O : Only (QUE ∷ []) a b) (queued : view m (row b QUE) ≡ due) (count : m ≡ length due) (S : Sound w) (E : Empty (flags w)) where
+    pub held-queued : Queued n m b w
+    unfolding among
+    held-queued =
+        let name = only-row (QUE ∷ []) a b NAME O refl in
+        let size = only-row (QUE ∷ []) a b SIZE O refl in
+        let prev = only-row (QUE ∷ []) a b PREV O refl in
+        let dist = only-row (QUE ∷ []) a b DIST O refl in
+        let tail = only-row (QUE ∷ []) a b TAIL O refl in
+        record {
+          movable =
+              record {
+                few = H .few;
+                queued = omega (arith, count, queue-short t (view n (flags small)) (H .least), held-long);
+                long = L;
+                name-beyond = rw name (H .name-beyond);
+                prev-beyond = rw prev (H .prev-beyond);
+                least = rw name (H .least);
+                lined = rw (name, queued) (queue-lined t (view n (flags small)));
+                sized = rw (name, size) (H .sized);
+                links = rw (name, dist, prev) (H .links);
+                lists = lists-same a b dist (only-row (QUE ∷ []) a b HEAD O refl) (only-row (QUE ∷ []) a b AFTER O refl) (only-row (QUE ∷ []) a b BEFORE O refl) (H .lists);
+                tails = rw tail (H .tails);
+              };
+          dist-beyond = rw dist (H .dist-beyond);
+          sound = S;
+          empty = E;
+        }
+
+    -- and what its moves make is the next width
+    pub queued-advanced : (c : List (List ℕ)) (v : List ℕ) → Refined (view n (row b NAME)) (view m (row b QUE)) n c v → Advanced n m a small c v
+    unfolding among
+    queued-advanced c v R =
+        let name = only-row (QUE ∷ []) a b NAME O refl in
+        record {
+          moves = count ∙ queue-length t (view n (flags small)) (H .least);
+          refined = subst (λ (x : List ℕ). Refined (view n x) due n c v) name (subst (λ (x : List ℕ). Refined (view n (row b NAME)) x n c v) queued R);
+        }
+
+-- the moves, then the turns of the groups and of the parts
+module _ (n m : ℕ) (a : List (List ℕ)) (small : List ℕ) (D : Queued n m a small) where
+  abbrev old : List ℕ
+  old = view n (row a NAME)
+
+  abbrev Q : List ℕ
+  Q = view m (row a QUE)
+
+  abbrev S : List ℕ
+  S = leaving old Q
+
+  old-long : length old ≡ n
+  old-long = view-length n (row a NAME) (omega (arith, D .movable .few, D .movable .long .each 0 (omega arith)))
+
+  known : Known old S n
+  known = record { few = D .movable .few; long = old-long; least = D .movable .least; lined = leaving-lined old Q (D .movable .lined) }
+
+  module _ (h g : ℕ) (b : List (List ℕ)) (M : Moved old S n a b h g) where
+    pub moved-turnable : Turnable old S n h g b
+    moved-turnable =
+        record {
+          known = known;
+          long = M .long;
+          names = ap (view n) (M .names);
+          beyond = rw (M .names) (D .movable .name-beyond);
+          gaps = record { long = M .long .each 3 (omega arith); next = M .links .next };
+          sizes = M .sizes;
+          many = M .many;
+          rests = M .rests;
+          tails = M .tails;
+          parts = M .parts;
+          groups = M .groups;
+        }
+
+    module _ (c d : List (List ℕ)) (w : List ℕ) (O : Only (NAME ∷ SIZE ∷ TAIL ∷ MANY ∷ []) b c) (R : Regrouped old S n h c) (T : Turned old S n c d w) where
+      abbrev u : List ℕ
+      u = nextOf old S
+
+      -- a row that neither the groups' turns nor the parts' write to
+      stays : (r : ℕ) → among (NAME ∷ SIZE ∷ TAIL ∷ MANY ∷ []) r ≡ false → among (NAME ∷ SIZE ∷ REST ∷ []) r ≡ false → row d r ≡ row b r
+      stays r p q = only-row (NAME ∷ SIZE ∷ REST ∷ []) c d r (T .only) q ∙ only-row (NAME ∷ SIZE ∷ TAIL ∷ MANY ∷ []) b c r O p
+
+      pub turned-refined : Refined old Q n d w
+      unfolding among
+      turned-refined =
+          record {
+            names = T .names ∙ leaving-next old Q;
+            flags-are =
+                view-is n (flags w) (partsSmall old (view n (row d NAME))) (parts-small-length (view n (row d NAME)) old ∙ ap length (T .names) ∙ next-length old S ∙ old-long)
+                (omega (arith, D .movable .few, T .flags-are .long))
+                (λ s l k. T .flags-are .held s l (omega (arith, parts-small-length u old, next-length old S, old-long)) ∙ ap (λ (v : List ℕ). at (partsSmall old v) s) (sym (T .names)));
+            held =
+                record {
+                  few = D .movable .few;
+                  long = T .long;
+                  name-beyond = T .beyond;
+                  prev-beyond = rw (stays PREV refl refl) (M .prev-beyond);
+                  dist-beyond = rw (stays DIST refl refl) (λ i l k. M .dist-beyond i l k ∙ D .dist-beyond i l k);
+                  least = rw (T .names) (next-least old S);
+                  sized = rw (T .names) (T .sized);
+                  links = rw (T .names, stays DIST refl refl, stays PREV refl refl) (M .links);
+                  lists = lists-same b d (stays DIST refl refl) (stays HEAD refl refl) (stays AFTER refl refl) (stays BEFORE refl refl) (M .lists);
+                  tails = rw (only-row (NAME ∷ SIZE ∷ REST ∷ []) c d TAIL (T .only) refl) (R .tails);
+                  sound = T .sound;
+                  flags-of = rw (T .names) (flags-of-parts old u (flags w) (omega (arith, next-length old S, old-long, D .movable .few)) (T .flags-are));
+                };
+          }
