@@ -1,31 +1,37 @@
--- The distance to the next position of a group and the number of starts in a row, as the loops that look for them find them. Assumes nothing.
+-- The distance to the next position of a group, by that position, and the number of starts in a row, as the loop that counts them finds it.
+-- Assumes nothing.
 use Prim.Native.Nat.{ℕ, suc, _+_, _-_, _*_, _≤_, _<_}
 use mathlib.Core.Path.{_≡_, sym, ap, _∙_}
 use mathlib.Core.Logic.{_⊎_, inl, inr, ⊎-elim, _≢_}
 use mathlib.Core.Bool.{Bool, true, false, not}
 use mathlib.Core.List.{List}
 use native.Mathlib.Omega.{arith}
-use lib.ListN.{length, getD}
+use lib.ListN.{length}
 use lib.Dec.{eqb}
-use borrow.Author.Tests.{eq-eqb, ne-eqb, le-leb, lt-leb}
+use borrow.Author.Tests.{eq-eqb, ne-eqb, eqb-false, le-leb, lt-leb}
 use Rattle.words.specs.Range.{first}
 use Rattle.words.specs.Reads.{at}
 use Rattle.words.specs.Groups.{gap}
 use Rattle.words.proofs.Tests.{clash, lt-or-ge}
 use Rattle.words.proofs.Ranges.{found}
+use Rattle.bench_links.specs.Links.{nextIn}
+use Rattle.bench_links.proofs.Nexts.{none-after, some-after}
 use Rattle.bench_agrees.specs.Agreement.{starts, copiesIn}
 use Rattle.words.proofs.Searches.{Missed, first-ended, first-hit}
 
+eqb-turned : (a b : ℕ) → eqb a b ≡ false → eqb b a ≡ false
+eqb-turned a b h = ne-eqb b a (λ q. eqb-false a b h (sym q))
+
 module _ (t : List ℕ) (i : ℕ) where
   -- the position m after i is of its group
-  abbrev pub meets : ℕ → Bool
+  abbrev meets : ℕ → Bool
   meets m = eqb (at t i) (at t (i + m))
 
-  pub gap-found : (m : ℕ) → 1 ≤ m → i + m ≤ length t → Missed meets 1 m → meets m ≡ true → gap t i ≡ m
+  gap-found : (m : ℕ) → 1 ≤ m → i + m ≤ length t → Missed meets 1 m → meets m ≡ true → gap t i ≡ m
   unfolding gap
   gap-found m a b h e = rw (first-hit meets (length t - i) 1 m h a (omega arith) e, le-leb (i + m) (length t) b)
 
-  pub gap-none : (r : ℕ) → length t < i + r → Missed meets 1 r → gap t i ≡ 0
+  gap-none : (r : ℕ) → length t < i + r → Missed meets 1 r → gap t i ≡ 0
   unfolding gap
   gap-none r h m =
       let k = first meets (length t - i) 1 in
@@ -44,10 +50,23 @@ module _ (t : List ℕ) (i : ℕ) where
       (λ l. inr (rw (le-leb (i + k) (length t) l) l))
       (lt-or-ge (length t) (i + k))
 
-  -- the cells of the code
-  pub meets-cell : (j m : ℕ) → 1 ≤ i → i + m ≡ j + 1 → meets m ≡ eqb (getD t (i - 1) 0) (getD t j 0)
-  unfolding at
-  meets-cell j m h e = ap (λ (v : ℕ). eqb (getD t (i - 1) 0) (getD t v 0)) (omega arith)
+  -- by the next position
+  gap-zero : nextIn t (at t i) i ≡ 0 → gap t i ≡ 0
+  gap-zero e =
+      gap-none (suc (length t) - i) (omega arith)
+      (λ m a b. eqb-turned (at t (i + m)) (at t i) (none-after t (at t i) i e (i + m) (omega arith) (omega arith)))
+
+  gap-some : 0 < nextIn t (at t i) i → gap t i ≡ nextIn t (at t i) i - i
+  gap-some l =
+      let h = some-after t (at t i) i l in
+      let k = nextIn t (at t i) i in
+      let e : i + (k - i) ≡ k = omega (arith, h .later) in
+      gap-found (k - i) (omega (arith, h .later)) (omega (arith, e, h .inside))
+      (λ m a b. eqb-turned (at t (i + m)) (at t i) (h .between (i + m) (omega arith) (omega arith)))
+      (rw e (eq-eqb (at t i) (at t k) (sym (h .same))))
+
+  pub gap-next : gap t i ≡ nextIn t (at t i) i - i
+  gap-next = ⊎-elim gap-some (λ l. gap-zero (omega arith) ∙ omega arith) (lt-or-ge 0 (nextIn t (at t i) i))
 
 module _ (t : List ℕ) (p i : ℕ) where
   -- k starts on there is none
@@ -70,6 +89,6 @@ module _ (t : List ℕ) (p i : ℕ) where
   unfolding copiesIn
   copies-ended k e m = ap suc (first-ended stops (length t) 0 k m (omega arith)) ∙ omega arith
 
-  -- the next place of the chain fits
-  pub chain-fits : (j b : ℕ) → gap t j ≡ p → j < b → length t < b → j + p < b
-  chain-fits j b e h l = ⊎-elim (λ z. omega arith) (λ z. omega arith) (gap-inside t j)
+  -- the next place of the chain lies in the table
+  pub chain-inside : (j : ℕ) → gap t j ≡ p → j ≤ length t → j + p ≤ length t
+  chain-inside j e h = ⊎-elim (λ z. omega arith) (λ z. omega arith) (gap-inside t j)

@@ -5,8 +5,11 @@ ghost use Prim.Native.Nat.{_+_, _≤_, _<_};
 ghost use lib.ListN.{length};
 ghost use Rattle.words.specs.Rows.{rows};
 ghost use Rattle.words.specs.Groups.{gap as distance};
+ghost use Rattle.bench_links.specs.Links.{Nexts};
 ghost use Rattle.bench_agrees.specs.Parts.{partEnd};
 ghost use Rattle.bench_agrees.specs.Agreement.{copiesIn, agreesAt, Onward};
+use bench_links::link;
+use bench_links::next_of;
 use row_cells::cell;
 use row_cells::count;
 use row_lines::is_line;
@@ -30,29 +33,23 @@ pub fn part_end(list: &[u16], c: usize, j: usize, w: usize, from: usize) -> usiz
 }
 
 // the distance from position i to the next position of its group, 0 if there is none
-fn gap(table: &[u16], i: usize) -> usize
-    requires { ⌜ 1 ≤ i ⌝ }
+fn gap(table: &[u16], after: &[u16], i: usize) -> usize
+    requires { ⌜ (1 ≤ i) × (i ≤ length (now table)) × Nexts (now table) (now after) ⌝ }
     ensures { λ r. ⌜ r ≡ distance (now (table .entry)) i ⌝ }
 {
-    let mut j = i;
-    while j < table.len() {
-        if table[j] == table[i - 1] {
-            return j + 1 - i;
-        }
-        j += 1;
-    }
-    0
+    let j = next_of(table, after, i);
+    if j == 0 { 0 } else { j - i }
 }
 
 // the copies from position i on, by the starts p apart
-fn copies(table: &[u16], p: usize, i: usize) -> usize
-    requires { ⌜ 1 ≤ i ⌝ }
+fn copies(table: &[u16], after: &[u16], p: usize, i: usize) -> usize
+    requires { ⌜ (1 ≤ i) × (i ≤ length (now table)) × Nexts (now table) (now after) ⌝ }
     ensures { λ r. ⌜ r ≡ copiesIn (now (table .entry)) p i ⌝ }
 {
     let mut j = i;
     let mut k = 0;
     while k < table.len() {
-        if gap(table, j) != p {
+        if gap(table, after, j) != p {
             return k + 1;
         }
         j += p;
@@ -68,15 +65,15 @@ struct Agreed {
 }
 
 // one position more
-fn agree_one(table: &[u16], p: usize, i: usize, lines: &[u16], a: Agreed) -> Agreed
-    requires { ⌜ (1 ≤ i) × (a .at ≤ length (now lines)) ⌝ }
+fn agree_one(table: &[u16], after: &[u16], p: usize, i: usize, lines: &[u16], a: Agreed) -> Agreed
+    requires { ⌜ (1 ≤ i) × (i ≤ length (now table)) × Nexts (now table) (now after) × (a .at ≤ length (now lines)) ⌝ }
     ensures { λ r. ⌜ Onward (now (table .entry)) p i (now (lines .entry)) (a .ok) (a .at) (r .ok) (r .at) ⌝ }
 {
     let at = a.at;
-    if gap(table, i) != p {
+    if gap(table, after, i) != p {
         return a;
     }
-    if is_line(lines, at, i, p, copies(table, p, i)) {
+    if is_line(lines, at, i, p, copies(table, after, p, i)) {
         return Agreed {
             ok: a.ok,
             at: at + line_size(),
@@ -85,18 +82,29 @@ fn agree_one(table: &[u16], p: usize, i: usize, lines: &[u16], a: Agreed) -> Agr
     Agreed { ok: false, at }
 }
 
-// are these exactly the lines that the groups of width p give?
-pub fn agree_at(table: &[u16], p: usize, lines: &[u16]) -> bool
+// all positions, by their links
+fn agree_all(table: &[u16], after: &[u16], p: usize, lines: &[u16]) -> bool
+    requires { ⌜ Nexts (now table) (now after) ⌝ }
     ensures { λ r. ⌜ r ≡ agreesAt (now (table .entry)) p (now (lines .entry)) ⌝ }
 {
     let mut a = Agreed { ok: true, at: 0 };
     let mut i = 0;
     while i < table.len() {
-        a = agree_one(table, p, i + 1, lines, a);
+        a = agree_one(table, after, p, i + 1, lines, a);
         i += 1;
     }
     if a.ok {
         return a.at == lines.len();
     }
     false
+}
+
+// are these exactly the lines that the groups of width p give?
+pub fn agree_at(table: &[u16], p: usize, lines: &[u16]) -> bool
+    ensures { λ r. ⌜ r ≡ agreesAt (now (table .entry)) p (now (lines .entry)) ⌝ }
+{
+    let mut head = [0u16; 1000];
+    let mut after = [0u16; 1000];
+    let k = link(table, &mut head, &mut after);
+    agree_all(table, &after[..k], p, lines)
 }

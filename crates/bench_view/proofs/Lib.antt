@@ -1,5 +1,1 @@
-pub mod Collecting
-pub mod Lengths
-pub mod Reaching
-pub mod Made
 pub mod Stepping

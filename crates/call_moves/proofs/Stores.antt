@@ -1,22 +1,18 @@
 -- The moves of a queue, stored place by place. Assumes nothing.
-use Prim.Native.Nat.{ℕ, suc, _+_, _*_, _≤_}
+use Prim.Native.Nat.{ℕ, suc, _+_, _*_}
 use mathlib.Core.Path.{_≡_, sym, ap, _∙_}
 use mathlib.Core.List.{List, _++_}
 use native.Mathlib.Omega.{arith}
 use lib.ListN.{length}
 use Rattle.words.specs.Range.{gather}
 use Rattle.words.specs.Reads.{at}
-use Rattle.words.specs.Moves.{moveOf, moveSize, movesIn}
-use Rattle.words.proofs.Ranges.{gather-same, gather-more}
+use Rattle.words.specs.Moves.{moveOf, moveSize}
+use Rattle.words.proofs.Ranges.{gather-more}
 use Rattle.words.proofs.Sums.{sum-same, sum-const, length-gather}
-use Rattle.slots.specs.Slots.{view}
-use Rattle.slots.proofs.Laws.{view-at}
-use Rattle.refine.specs.Refine.{Lined, queue}
 use Rattle.words.proofs.MoveLayout.{move-length}
 use Rattle.row_cells.specs.Stored.{stored}
 use Rattle.row_cells.proofs.Stored.{stored-append, stored-none}
-use Rattle.call_moves.specs.Queued.{Inside, moveFrom, movesTo}
-use Rattle.refine.proofs.QueueMoves.{moves-queue-places}
+use Rattle.call_moves.specs.Queued.{moveFrom, movesTo}
 
 module _ (w : ℕ) (name que : List ℕ) where
   moves-to-length : (q : ℕ) → length (movesTo w name que q) ≡ moveSize * q
@@ -50,26 +46,3 @@ module _ (w : ℕ) (name que : List ℕ) where
 
       move : moveOf w s i ≡ moveFrom w name que (1 + q)
       move = ap (λ (v : ℕ). moveOf w v i) (n ∙ ap (at name) (omega arith)) ∙ ap (λ (v : ℕ). moveOf w (at name (suc v)) v) place
-
--- the queue of a width in an array
-module _ (name que : List ℕ) (n m : ℕ) (few : n ≤ 1000) (lined : Lined (view n name) (view m que)) (f : List ℕ) (queued : view m que ≡ queue (view n name) f) (count : m ≡ length (queue (view n name) f)) where
-  placed : (q : ℕ) → 1 ≤ q → q ≤ m → (1 ≤ at que q) × (suc (at que q) ≤ length (view n name))
-  placed q a b =
-      let e : at que q ≡ at (view m que) q = sym (view-at m que q a b) in
-      rw e (lined .inside q a (omega (arith, b, count, ap length queued)))
-
-  pub queue-inside : length (view n name) ≡ n → Inside que m
-  queue-inside l q a b = let p = placed q a b in (p .0, omega (arith, p .1, few))
-
-  -- its moves are those of the width
-  pub queue-moves-in : length (view n name) ≡ n → (w : ℕ) → movesTo w name que m ≡ movesIn w (view n name) f
-  unfolding movesTo moveFrom
-  queue-moves-in l w =
-      gather-same (moveFrom w name que) (λ q. moveOf w (at (view n name) (suc (at (queue (view n name) f) q))) (at (queue (view n name) f) q)) m 1 (λ q a b. same q a (omega arith))
-      ∙ ap (λ (v : ℕ). gather (λ q. moveOf w (at (view n name) (suc (at (queue (view n name) f) q))) (at (queue (view n name) f) q)) v 1) count
-      ∙ sym (moves-queue-places w (view n name) f)
-    where
-      same : (q : ℕ) → 1 ≤ q → q ≤ m → moveOf w (at name (suc (at que q))) (at que q) ≡ moveOf w (at (view n name) (suc (at (queue (view n name) f) q))) (at (queue (view n name) f) q)
-      same q a b =
-          ap (λ (v : ℕ). moveOf w v (at que q)) (sym (view-at n name (suc (at que q)) (omega arith) (omega (arith, placed q a b .1, l))))
-          ∙ ap (λ (v : ℕ). moveOf w (at (view n name) (suc v)) v) (sym (view-at m que q a b) ∙ ap (λ (v : List ℕ). at v q) queued)

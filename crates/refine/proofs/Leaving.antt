@@ -1,12 +1,12 @@
 -- A queue without the positions that are alone in their groups: which place each position gets there, and that it moves the groups alike.
 -- Assumes nothing.
 use Prim.Native.Nat.{ℕ, zero, suc, _+_, _-_, _≤_, _<_}
-use mathlib.Core.Path.{_≡_, refl, sym, ap, _∙_}
-use mathlib.Core.Logic.{_⊎_, inl, inr, ⊎-elim}
-use mathlib.Core.Bool.{Bool, true, false, _&&_, cond}
-use mathlib.Core.List.{List, [], _∷_, _++_}
+use mathlib.Core.Path.{_≡_, sym, ap, _∙_}
+use mathlib.Core.Logic.{⊎-elim}
+use mathlib.Core.Bool.{true, false, _&&_}
+use mathlib.Core.List.{List, [], _∷_, _++_, append-assoc}
 use native.Mathlib.Omega.{arith}
-use lib.ListN.{length, length-append, List·getD-append}
+use lib.ListN.{length, length-append}
 use lib.Seq.{getD-at}
 use lib.Dec.{eqb, ltb}
 use borrow.Author.Tests.{eqb-true, eq-eqb, lt-ltb}
@@ -36,15 +36,12 @@ module _ (t Q : List ℕ) where
   unfolding leaver
   taken q e = added q ∙ rw e
 
-  passed : (q : ℕ) → paired t (at Q (suc q)) ≡ false → gather (leaver t Q) (suc q) 1 ≡ gather (leaver t Q) q 1
-  unfolding leaver
-  passed q e = added q ∙ rw e (append-nil (gather (leaver t Q) q 1))
-
   pub leaving-grow : (q : ℕ) → paired t (at Q (suc q)) ≡ true → length (gather (leaver t Q) (suc q) 1) ≡ suc (length (gather (leaver t Q) q 1))
   leaving-grow q e = rw (taken q e) (length-append (gather (leaver t Q) q 1) (at Q (suc q) ∷ []) ∙ omega arith)
 
   pub leaving-stay : (q : ℕ) → paired t (at Q (suc q)) ≡ false → length (gather (leaver t Q) (suc q) 1) ≡ length (gather (leaver t Q) q 1)
-  leaving-stay q e = ap length (passed q e)
+  unfolding leaver
+  leaving-stay q e = rw (added q, e) (ap length (append-nil (gather (leaver t Q) q 1)))
 
   pub leaving-few : (q : ℕ) → length (gather (leaver t Q) q 1) ≤ q
   unfolding gather
@@ -60,43 +57,35 @@ module _ (t Q : List ℕ) where
     more : gather (leaver t Q) r 1 ≡ gather (leaver t Q) q 1 ++ gather (leaver t Q) (r - q) (1 + q)
     more = ap (λ (v : ℕ). gather (leaver t Q) v 1) (omega arith) ∙ gather-parts (leaver t Q) q (r - q) 1
 
-    pub leaving-rises : length (gather (leaver t Q) q 1) ≤ length (gather (leaver t Q) r 1)
+    leaving-rises : length (gather (leaver t Q) q 1) ≤ length (gather (leaver t Q) r 1)
     leaving-rises = rw more (omega (arith, length-append (gather (leaver t Q) q 1) (gather (leaver t Q) (r - q) (1 + q))))
-
-    pub leaving-early : (s : ℕ) → 1 ≤ s → s ≤ length (gather (leaver t Q) q 1) → at (gather (leaver t Q) r 1) s ≡ at (gather (leaver t Q) q 1) s
-    unfolding at
-    leaving-early s a b = rw more (List·getD-append (gather (leaver t Q) q 1) (gather (leaver t Q) (r - q) (1 + q)) 0 (s - 1) (omega arith))
 
   -- the place of a position that leaves
   module _ (q : ℕ) (e : paired t (at Q (suc q)) ≡ true) where
-    leaving-last : at (gather (leaver t Q) (suc q) 1) (suc (length (gather (leaver t Q) q 1))) ≡ at Q (suc q)
-    unfolding at
-    leaving-last = rw (taken q e) (getD-at (gather (leaver t Q) q 1) (at Q (suc q)) [] 0 (suc (length (gather (leaver t Q) q 1)) - 1) (omega arith))
-
     pub leaving-inside : q < length Q → suc (length (gather (leaver t Q) q 1)) ≤ length (leaving t Q)
     unfolding leaving
     leaving-inside l = omega (arith, leaving-grow q e, leaving-rises (suc q) (length Q) l)
 
     pub leaving-at : q < length Q → at (leaving t Q) (suc (length (gather (leaver t Q) q 1))) ≡ at Q (suc q)
-    unfolding leaving
-    leaving-at l = leaving-early (suc q) (length Q) l (suc (length (gather (leaver t Q) q 1))) (omega arith) (omega (arith, leaving-grow q e)) ∙ leaving-last
+    unfolding leaving at
+    leaving-at l =
+        rw (more (suc q) (length Q) l, taken q e, append-assoc)
+        (getD-at (gather (leaver t Q) q 1) (at Q (suc q)) (gather (leaver t Q) (length Q - suc q) (1 + suc q)) 0 (suc (length (gather (leaver t Q) q 1)) - 1) (omega arith))
 
   -- the first places come from the first places of Q
   pub leaving-from : (q s : ℕ) → 1 ≤ s → s ≤ length (gather (leaver t Q) q 1) → From t Q q s
   leaving-from zero s a b = absurd (omega (arith, leaving-few 0))
-  leaving-from (suc q) s a b = go (either (paired t (at Q (suc q)))) (lt-or-ge (length (gather (leaver t Q) q 1)) s) (λ l. leaving-from q s a l)
-    where
-      longer : From t Q q s → From t Q (suc q) s
-      longer w = record { p = w .p; early = omega (arith, w .early); left = w .left; place = w .place }
-
-      go : (paired t (at Q (suc q)) ≡ true) ⊎ (paired t (at Q (suc q)) ≡ false) → (length (gather (leaver t Q) q 1) < s) ⊎ (s ≤ length (gather (leaver t Q) q 1))
-          → (s ≤ length (gather (leaver t Q) q 1) → From t Q q s) → From t Q (suc q) s
-      go x (inr l) h = longer (h l)
-      go (inl e) (inl l) h = record { p = q; early = omega arith; left = e; place = omega (arith, leaving-grow q e) }
-      go (inr e) (inl l) h = absurd (omega (arith, leaving-stay q e))
+  leaving-from (suc q) s a b =
+      ⊎-elim
+      (λ (l : length (gather (leaver t Q) q 1) < s). ⊎-elim
+      (λ e. record { p = q; early = omega arith; left = e; place = omega (arith, leaving-grow q e) })
+      (λ e. absurd (omega (arith, leaving-stay q e)))
+      (either (paired t (at Q (suc q)))))
+      (λ l. let w = leaving-from q s a l in record { p = w .p; early = omega (arith, w .early); left = w .left; place = w .place })
+      (lt-or-ge (length (gather (leaver t Q) q 1)) s)
 
   -- the place of Q that a place of the rest comes from
-  pub from-all : (s : ℕ) → 1 ≤ s → s ≤ length (leaving t Q) → From t Q (length Q) s
+  from-all : (s : ℕ) → 1 ≤ s → s ≤ length (leaving t Q) → From t Q (length Q) s
   unfolding leaving
   from-all s a b = leaving-from (length Q) s a b
 
@@ -104,7 +93,7 @@ module _ (t Q : List ℕ) where
   from-at q s l w = rw (w .place) (leaving-at (w .p) (w .left) (omega (arith, w .early)))
 
   -- later places come from later places
-  pub from-rises : (q s r v : ℕ) → (w : From t Q q s) → (x : From t Q r v) → s < v → w .p < x .p
+  from-rises : (q s r v : ℕ) → (w : From t Q q s) → (x : From t Q r v) → s < v → w .p < x .p
   from-rises q s r v w x l = ⊎-elim (λ h. h) (λ h. absurd (omega (arith, leaving-rises (x .p) (w .p) h, w .place, x .place))) (lt-or-ge (w .p) (x .p))
 
   pub leaving-lined : Lined t Q → Lined t (leaving t Q)
@@ -151,11 +140,7 @@ module _ (t Q : List ℕ) where
   -- one that is not alone leaves alike
   paired-leaves : (i : ℕ) → paired t i ≡ true → leaves t (leaving t Q) i ≡ leaves t Q i
   unfolding leaves
-  paired-leaves i e = rw (leaving-has i, e) (go (has Q i))
-    where
-      go : (b : Bool) → cond (b && true) (at t (suc i)) 0 ≡ cond b (at t (suc i)) 0
-      go true = refl
-      go false = refl
+  paired-leaves i e = rw (leaving-has i, e) (⊎-elim (λ h. rw h) (λ h. rw h) (either (has Q i)))
 
   pub leaving-next : nextOf t (leaving t Q) ≡ nextOf t Q
   unfolding nextOf together paired

@@ -6,6 +6,5 @@ pub mod Zeros
 pub mod Count
 pub mod Queue
 pub mod QueueMoves
-pub mod Lengths
 pub mod Steps
 pub mod Leaving

@@ -1,19 +1,20 @@
 -- Which positions have one name after a queue has moved: those that move from one group under one name, and what stays of one group.
 -- Assumes nothing.
 use Prim.Native.Nat.{ℕ, suc, _≤_, _<_}
-use mathlib.Core.Path.{_≡_, refl, sym, ap, _∙_}
-use mathlib.Core.Logic.{_⊎_, inl, inr, ⊎-elim, _≢_}
-use mathlib.Core.Bool.{Bool, true, false, _&&_, not, cond}
+use mathlib.Core.Path.{_≡_, sym, ap, _∙_}
+use mathlib.Core.Logic.{⊎-elim, _≢_}
+use mathlib.Core.Bool.{Bool, true, false, _&&_, not}
 use mathlib.Core.List.{List}
 use native.Mathlib.Omega.{arith}
 use lib.ListN.{length}
 use lib.Dec.{leb, eqb}
-use borrow.Author.Tests.{leb-true, leb-false, le-leb, eqb-true, eq-eqb, not-true}
+use borrow.Author.Tests.{leb-true, leb-false, le-leb, eqb-true, eq-eqb, ne-eqb, not-true}
 use Rattle.words.specs.Range.{first}
 use Rattle.words.specs.Reads.{at}
 use Rattle.words.specs.Groups.{Least, size}
-use Rattle.words.proofs.Tests.{either, clash, lt-or-ge, and-left, and-right, same-test}
+use Rattle.words.proofs.Tests.{either, clash, and-left, and-right, same-test}
 use Rattle.words.proofs.Ranges.{found, Found}
+use Rattle.words.proofs.Searches.{Missed, first-hit}
 use Rattle.words.proofs.Sums.{count-same, count-none}
 use Rattle.refine.specs.Refine.{has, Lined, leaves, nextOf, stayer, stayers}
 use Rattle.refine.proofs.Queues.{leaves-moved, leaves-kept, has-inside}
@@ -22,11 +23,8 @@ use Rattle.refine.proofs.Next.{next-length, next-least, next-same, same
 -- a position that names no group has the size 0
 pub size-nameless : (u : List ℕ) → Least u → (s : ℕ) → at u s ≢ s → size u s ≡ 0
 unfolding size
-size-nameless u M s ne = count-none (λ j. eqb (at u j) s) (length u) 1 (λ j c d. go j c (omega arith) (either (eqb (at u j) s)))
-  where
-    go : (j : ℕ) → 1 ≤ j → j ≤ length u → (eqb (at u j) s ≡ true) ⊎ (eqb (at u j) s ≡ false) → eqb (at u j) s ≡ false
-    go j c d (inl p) = let e : at u j ≡ s = eqb-true (at u j) s p in absurd (ne (ap (at u) (sym e) ∙ M .own j c d ∙ e))
-    go j c d (inr p) = p
+size-nameless u M s ne =
+    count-none (λ j. eqb (at u j) s) (length u) 1 (λ j c d. ne-eqb (at u j) s (λ e. ne (ap (at u) (sym e) ∙ M .own j c (omega arith) ∙ e)))
 
 -- the least position of the group k that stays, or 0
 pub record Stays (t Q : List ℕ) (k j : ℕ) : Type 0 where
@@ -37,27 +35,20 @@ pub record Stays (t Q : List ℕ) (k j : ℕ) : Type 0 where
   pub least : (i : ℕ) → 1 ≤ i → i < j → at t i ≡ k → has Q i ≡ true
 
 module _ (t Q : List ℕ) (k : ℕ) where
-  test : ℕ → Bool
+  abbrev test : ℕ → Bool
   test i = eqb (at t i) k && not (has Q i)
 
   test-true : (i : ℕ) → at t i ≡ k → has Q i ≡ false → test i ≡ true
-  unfolding test
   test-true i e h = rw (eq-eqb (at t i) k e, h)
 
   test-is : (i : ℕ) → test i ≡ true → (at t i ≡ k) × (has Q i ≡ false)
-  unfolding test
   test-is i e = (eqb-true (at t i) k (and-left (eqb (at t i) k) (not (has Q i)) e), not-true (has Q i) (and-right (eqb (at t i) k) (not (has Q i)) e))
 
-  sought : ℕ
-  sought = first (λ i. eqb (at t i) k && not (has Q i)) (length t) 1
+  abbrev sought : ℕ
+  sought = first test (length t) 1
 
   sought-is : Found test (length t) 1 sought
-  unfolding test sought
-  sought-is = found (λ i. eqb (at t i) k && not (has Q i)) (length t) 1
-
-  stayer-sought : stayer t Q k ≡ cond (leb sought (length t)) sought 0
-  unfolding stayer sought
-  stayer-sought = refl
+  sought-is = found test (length t) 1
 
   -- a position of k before the one that is sought moves
   earlier : (i : ℕ) → 1 ≤ i → i < sought → at t i ≡ k → has Q i ≡ true
@@ -65,34 +56,29 @@ module _ (t Q : List ℕ) (k : ℕ) where
 
   -- if it is a position, it is the least that stays; else none stays
   pub stayer-is : (j : ℕ) → stayer t Q k ≡ j → 1 ≤ j → Stays t Q k j
-  stayer-is j e l = go (either (leb sought (length t)))
-    where
-      go : (leb sought (length t) ≡ true) ⊎ (leb sought (length t) ≡ false) → Stays t Q k j
-      go (inl h) =
-          let q : sought ≡ j = sym (stayer-sought ∙ rw h) ∙ e in
-          let b : sought ≤ length t = leb-true sought (length t) h in
-          let s = test-is sought (sought-is .pass (omega arith)) in
-          rw (← q) (record { low = sought-is .low; high = b; of = s .0; kept = s .1; least = earlier })
-      go (inr h) = let z : 0 ≡ j = sym (stayer-sought ∙ rw h) ∙ e in absurd (omega arith)
+  unfolding stayer
+  stayer-is j e l =
+      ⊎-elim
+      (λ h.
+      let b : sought ≤ length t = leb-true sought (length t) h in
+      let s = test-is sought (sought-is .pass (omega arith)) in
+      rw (← (rw h at e)) (record { low = sought-is .low; high = b; of = s .0; kept = s .1; least = earlier }))
+      (λ h. let z : 0 ≡ j = rw h at e in absurd (omega arith))
+      (either (leb sought (length t)))
 
   pub stayer-none : stayer t Q k ≡ 0 → (i : ℕ) → 1 ≤ i → i ≤ length t → at t i ≡ k → has Q i ≡ true
-  stayer-none e i a b s = go (either (leb sought (length t)))
-    where
-      go : (leb sought (length t) ≡ true) ⊎ (leb sought (length t) ≡ false) → has Q i ≡ true
-      go (inl h) = let q : sought ≡ 0 = sym (stayer-sought ∙ rw h) ∙ e in absurd (omega (arith, q, sought-is .low))
-      go (inr h) = earlier i a (omega (arith, leb-false sought (length t) h)) s
+  unfolding stayer
+  stayer-none e i a b s =
+      ⊎-elim
+      (λ h. let q : sought ≡ 0 = rw h at e in absurd (omega (arith, q, sought-is .low)))
+      (λ h. earlier i a (omega (arith, leb-false sought (length t) h)) s)
+      (either (leb sought (length t)))
 
   pub stays-stayer : (j : ℕ) → Stays t Q k j → stayer t Q k ≡ j
-  stays-stayer j S = stayer-sought ∙ rw (le-leb sought (length t) (omega (arith, up, S .high))) (omega (arith, up, down (lt-or-ge sought j)))
-    where
-      up : sought ≤ j
-      up = ⊎-elim (λ l. clash (test-true j (S .of) (S .kept)) (sought-is .least j (S .low) l)) (λ l. l) (lt-or-ge j sought)
-
-      down : (sought < j) ⊎ (j ≤ sought) → j ≤ sought
-      down (inl l) =
-          let s = test-is sought (sought-is .pass (omega (arith, S .high))) in
-          clash (S .least sought (sought-is .low) l (s .0)) (s .1)
-      down (inr l) = l
+  unfolding stayer
+  stays-stayer j S =
+      let missed : Missed test 1 j = λ i a l. ⊎-elim (λ e. clash (S .least i a l (test-is i e .0)) (test-is i e .1)) (λ e. e) (either (test i)) in
+      rw (first-hit test (length t) 1 j missed (S .low) (omega (arith, S .high)) (test-true j (S .of) (S .kept)), le-leb j (length t) (S .high))
 
 module _ (t Q : List ℕ) (L : Least t) (N : Lined t Q) where
   -- a position that moves leaves under a name, which is not 0

@@ -87,16 +87,16 @@ module _ (t f : List ℕ) where
       rw (single-at (queue t f) q (w .2 .i) (w .2 .is)) (w .2 .moves)
 
   pub queue-lined : Lined t (queue t f)
-  queue-lined = record { inside = λ q a b. (moves-at q a b .0, moves-at q a b .1); rises = rises }
-    where
-      rises : (q r : ℕ) → 1 ≤ q → q < r → r ≤ length (queue t f)
-          → (at t (suc (at (queue t f) q)) < at t (suc (at (queue t f) r))) ⊎ ((at t (suc (at (queue t f) q)) ≡ at t (suc (at (queue t f) r))) × (at (queue t f) q < at (queue t f) r))
-      rises q r a l b =
-          let w = rise-two 1 (omega arith) rise-queue (q - 1) (r - 1) (omega arith) (omega (arith, single-rows (queue t f))) in
-          let m = w .3 in
-          let n = w .4 in
-          rw (single-at (queue t f) q (m .i) (m .is), single-at (queue t f) r (n .i) (n .is))
-          (key-order K (at t (suc (m .i))) (m .i) (at t (suc (n .i))) (n .i) (omega (arith, m .moves .1)) (omega (arith, n .moves .1)) (omega (arith, w .2, m .keyed, n .keyed)))
+  queue-lined =
+      record {
+        inside = λ q a b. (moves-at q a b .0, moves-at q a b .1);
+        rises = λ q r a l b.
+            let w = rise-two 1 (omega arith) rise-queue (q - 1) (r - 1) (omega arith) (omega (arith, single-rows (queue t f))) in
+            let m = w .3 in
+            let n = w .4 in
+            rw (single-at (queue t f) q (m .i) (m .is), single-at (queue t f) r (n .i) (n .is))
+            (key-order K (at t (suc (m .i))) (m .i) (at t (suc (n .i))) (n .i) (omega (arith, m .moves .1)) (omega (arith, n .moves .1)) (omega (arith, w .2, m .keyed, n .keyed)));
+      }
 
   -- ---- a position is in the queue if and only if its right neighbour is in a small group
 
@@ -107,7 +107,9 @@ module _ (t f : List ℕ) where
 
   pub moves-queue : Least t → (i : ℕ) → Moves i → has (queue t f) i ≡ true
   unfolding queue leftOf leftAt
-  moves-queue L i m = found whole
+  moves-queue L i m =
+      let e : at (queue t f) (suc (whole .0)) ≡ i = single-at (queue t f) (suc (whole .0)) i (ap (row 1 (queue t f)) (omega arith) ∙ whole .2) in
+      rw e at (is-has (queue t f) (suc (whole .0)) (omega arith) (omega (arith, whole .1, single-rows (queue t f))))
     where
       s : ℕ
       s = at t (suc i)
@@ -124,8 +126,3 @@ module _ (t f : List ℕ) where
           has-gather 1 (omega arith) (leftOf t f) (i ∷ []) (length t) 1 s
           (L .low (suc i) (omega arith) (m .1)) (omega (arith, L .high (suc i) (omega arith) (m .1), m .1))
           (λ k a b. rise-full 1 (omega arith) (rise-of k)) of-group
-
-      found : Has 1 (queue t f) (i ∷ []) → has (queue t f) i ≡ true
-      found h =
-          let e : at (queue t f) (suc (h .0)) ≡ i = single-at (queue t f) (suc (h .0)) i (ap (row 1 (queue t f)) (omega arith) ∙ h .2) in
-          rw e at (is-has (queue t f) (suc (h .0)) (omega arith) (omega (arith, h .1, single-rows (queue t f))))

@@ -1,6 +1,6 @@
 -- The moves of a width are those of its queue, place by place: each position moves under the name of its right neighbour, since inside the
--- group named s every right neighbour has the name s. Assumes nothing.
-use Prim.Native.Nat.{ℕ, zero, suc, _+_, _-_, _≤_}
+-- group named s every right neighbour has the name s. So the queue is as long as there are moves. Assumes nothing.
+use Prim.Native.Nat.{ℕ, zero, suc, _+_, _-_, _*_, _≤_}
 use mathlib.Core.Path.{_≡_, refl, sym, ap, _∙_}
 use mathlib.Core.Bool.{Bool, true, false, cond}
 use mathlib.Core.List.{List, [], _∷_, _++_, append-assoc}
@@ -10,8 +10,12 @@ use lib.Dec.{eqb}
 use borrow.Author.Tests.{eqb-true}
 use Rattle.words.specs.Range.{gather}
 use Rattle.words.specs.Reads.{at}
-use Rattle.words.specs.Moves.{moveOf, moveAt, movesOf, movesIn}
+use Rattle.words.specs.Groups.{Least}
+use Rattle.words.specs.Moves.{moveOf, moveSize, moveAt, movesOf, movesIn, moveCount}
 use Rattle.words.proofs.Ranges.{gather-same, append-nil}
+use Rattle.words.proofs.Sums.{sum-same, sum-const, length-gather, count-le}
+use Rattle.words.proofs.MoveLayout.{move-length}
+use Rattle.words.proofs.Room.{moves-in-length}
 use Rattle.refine.specs.Refine.{leftAt, leftOf, queue}
 
 module _ (g : ℕ → List ℕ) where
@@ -48,10 +52,7 @@ spread-places g (i ∷ l) =
     (spread-places g l
     ∙ gather-same (λ q. g (at l q)) (λ q. g (at (i ∷ l) (suc q))) (length l) 1 (λ q a b. ap g (sym (at-next i l q a)))
     ∙ sym (gather-shift (λ q. g (at (i ∷ l) q)) (length l) 1))
-    ∙ ap (λ (v : ℕ). g v ++ gather (λ q. g (at (i ∷ l) q)) (length l) 2) first-at
-  where
-    first-at : i ≡ at (i ∷ l) 1
-    first-at = unfold at in refl
+    ∙ ap (λ (v : ℕ). g v ++ gather (λ q. g (at (i ∷ l) q)) (length l) 2) (unfold at in refl)
 
 module _ (w : ℕ) (t f : List ℕ) where
   -- position i moves under the name of its right neighbour
@@ -85,3 +86,18 @@ module _ (w : ℕ) (t f : List ℕ) where
       (gather-same (λ s. spread moving (leftOf t f s)) (movesOf w t f) (length t) 1 (λ s a b. spread-of s))
       ∙ sym (spread-gather moving (leftOf t f) (length t) 1)
       ∙ spread-places moving (gather (leftOf t f) (length t) 1)
+
+module _ (t f : List ℕ) (L : Least t) where
+  pub queue-length : length (queue t f) ≡ moveCount t f
+  unfolding moveSize
+  queue-length =
+      let Q = queue t f in
+      let m : ℕ → List ℕ = λ q. moveOf 0 (at t (suc (at Q q))) (at Q q) in
+      let each : length (movesIn 0 t f) ≡ length Q * moveSize =
+      ap length (moves-queue-places 0 t f) ∙ length-gather m (length Q) 1
+      ∙ sum-same (λ q. length (m q)) (λ q. moveSize) (length Q) 1 (λ q a b. move-length 0 (at t (suc (at Q q))) (at Q q)) ∙ sum-const moveSize (length Q) 1 in
+      omega (arith, each, moves-in-length t f L 0)
+
+  pub queue-short : length (queue t f) ≤ length t - 1
+  unfolding moveCount
+  queue-short = omega (arith, queue-length, count-le (λ j. eqb (at f (at t j)) 1) (length t - 1) 2)

@@ -1,8 +1,6 @@
 -- The table after the queue of a width has moved is the table that the replay rule gives for the moves of that width. Assumes nothing.
 use Prim.Native.Nat.{ℕ, suc, _≤_}
-use mathlib.Core.Path.{_≡_, sym, _∙_}
-use mathlib.Core.Logic.{⊎-elim}
-use mathlib.Core.Bool.{true}
+use mathlib.Core.Path.{_≡_, _∙_}
 use mathlib.Core.List.{List}
 use lib.ListN.{length}
 use lib.Dec.{ltb, eqb}
@@ -13,36 +11,29 @@ use Rattle.words.specs.Groups.{Least}
 use Rattle.words.specs.Moves.{movesIn, goes}
 use Rattle.words.specs.Replay.{under, stays, after}
 use Rattle.words.specs.Steps.{nextTable}
-use Rattle.words.proofs.Tests.{either, clash, and-left, and-right, and-both}
+use Rattle.words.proofs.Tests.{and-left, and-right, and-both, same-test}
 use Rattle.words.proofs.Ranges.{column-same, leader-agrees}
-use Rattle.words.proofs.Split.{leaving, goes-moves, goes-stays}
+use Rattle.words.proofs.Split.{leaving}
 use Rattle.words.proofs.Moves.{moves-go}
 use Rattle.refine.specs.Refine.{queue, has, leaves, together, nextOf}
-use Rattle.refine.proofs.Queues.{leaves-moved, leaves-kept}
 use Rattle.refine.proofs.Queue.{Moves, queue-moves, moves-queue}
 
 module _ (t f : List ℕ) (L : Least t) where
   -- a position is in the queue exactly if the rule of moves moves it
-  leaving-has : (i : ℕ) → 1 ≤ i → leaving t f i ≡ true → has (queue t f) i ≡ true
-  leaving-has i a e =
-      moves-queue t f L i (
-        a,
-        ltb-true i (length t) (and-left (ltb i (length t)) (eqb (at f (at t (suc i))) 1) e),
-        eqb-true (at f (at t (suc i))) 1 (and-right (ltb i (length t)) (eqb (at f (at t (suc i))) 1) e),
-      )
-
-  has-leaving : (i : ℕ) → has (queue t f) i ≡ true → leaving t f i ≡ true
-  has-leaving i h =
+  leaving-has : (i : ℕ) → 1 ≤ i → leaving t f i ≡ has (queue t f) i
+  leaving-has i a =
+      let A = ltb i (length t) in
+      let B = eqb (at f (at t (suc i))) 1 in
+      same-test (leaving t f i) (has (queue t f) i)
+      (λ e. moves-queue t f L i (a, ltb-true i (length t) (and-left A B e), eqb-true (at f (at t (suc i))) 1 (and-right A B e)))
+      (λ h.
       let m : Moves t f i = queue-moves t f i h in
-      and-both (ltb i (length t)) (eqb (at f (at t (suc i))) 1) (lt-ltb i (length t) (m .1)) (eq-eqb (at f (at t (suc i))) 1 (m .2))
+      and-both A B (lt-ltb i (length t) (m .1)) (eq-eqb (at f (at t (suc i))) 1 (m .2)))
 
   -- and under the same name
   goes-leaves : (i : ℕ) → 1 ≤ i → goes t f i ≡ leaves t (queue t f) i
-  goes-leaves i a =
-      ⊎-elim
-      (λ e. goes-moves t f i e ∙ sym (leaves-moved (queue t f) t i (leaving-has i a e)))
-      (λ e. goes-stays t f i e ∙ sym (leaves-kept (queue t f) t i (⊎-elim (λ h. clash (has-leaving i h) e) (λ h. h) (either (has (queue t f) i)))))
-      (either (leaving t f i))
+  unfolding goes leaves
+  goes-leaves i a = rw (leaving-has i a)
 
   pub next-table-queue : (w : ℕ) → nextTable w t f ≡ nextOf t (queue t f)
   unfolding nextTable after nextOf

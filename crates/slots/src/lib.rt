@@ -1,9 +1,9 @@
-// A work room is an array of 1,000 numbers with a place for each position of a read, from 1. The library's own functions read and write
-// places through `load` and `store`, so that every contract above speaks of positions; only `step_queue` looks at four flags at once.
+// A work room is an array of 1,000 numbers with a place for each position of a read, from 1. Places are read and written through `load` and `store`, so
+// that every contract above speaks of positions.
 ghost use mathlib.Core.Path.{_≡_};
 ghost use Prim.Native.Nat.{_≤_};
 ghost use Rattle.words.specs.Reads.{at};
-ghost use Rattle.slots.specs.Slots.{put, putSome};
+ghost use Rattle.slots.specs.Slots.{put};
 
 pub fn wide(x: u16) -> usize
     ensures { λ r. ⌜ r ≡ x ⌝ }
@@ -27,14 +27,4 @@ pub fn store(a: &mut [u16; 1000], i: u16, v: u16)
 {
     let k = wide(i) - 1;
     a[k] = v;
-}
-
-// v is stored at place j, if there is such a place
-pub fn store_some(a: &mut [u16; 1000], j: u16, v: u16)
-    requires { ⌜ j ≤ 1000 ⌝ }
-    ensures { λ r. ⌜ now (a .exit) ≡ putSome (now (a .entry)) j v ⌝ }
-{
-    if 0 < j {
-        store(a, j, v);
-    }
 }

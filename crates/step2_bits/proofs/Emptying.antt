@@ -2,17 +2,18 @@
 -- Assumes nothing.
 use Prim.Native.Nat.{ℕ, _+_, _-_, _≤_, _<_}
 use mathlib.Core.Path.{_≡_, refl, sym, _∙_}
-use mathlib.Core.Logic.{⊎-elim}
+use mathlib.Core.Logic.{by-cases, ⊎-elim}
 use mathlib.Core.Bool.{cond}
 use mathlib.Core.List.{List, []}
+use native.Mathlib.Decide.{ℕ-discrete}
 use native.Mathlib.Omega.{arith}
 use lib.ListN.{length}
-use lib.Dec.{ltb, eqb}
-use borrow.Author.Tests.{eqb-true, eqb-false, lt-ltb, le-ltb}
+use lib.Dec.{ltb}
+use borrow.Author.Tests.{lt-ltb, le-ltb}
 use Rattle.words.specs.Range.{gather}
 use Rattle.words.specs.Reads.{at}
 use Rattle.words.proofs.Ranges.{gather-stop}
-use Rattle.words.proofs.Tests.{either, lt-or-ge}
+use Rattle.words.proofs.Tests.{lt-or-ge}
 use Rattle.slots.specs.Slots.{putSome}
 use Rattle.slots.proofs.Laws.{some-length, some-same, some-other}
 use Rattle.step2_bits.specs.Sets.{Empty, First}
@@ -78,10 +79,9 @@ module _ (f : List ℕ) (m : ℕ) (g : List ℕ) (A : After f m g) (inside : m �
         after = record {
           long = some-length g s 0 ∙ A .long;
           gone = λ i a b c.
-              ⊎-elim
-              (λ d. let q = eqb-true i s d in rw q (some-same g s 0 (omega (arith, a, q)) (omega (arith, A .long, F .high))))
-              (λ d. some-other g s 0 i a (eqb-false i s d) ∙ before i a c (λ l. omega (arith, done-some s l, eqb-false i s d)))
-              (either (eqb i s));
+              by-cases (ℕ-discrete i s)
+              (λ d. rw d (some-same g s 0 (omega arith) (omega (arith, A .long, F .high))))
+              (λ d. some-other g s 0 i a d ∙ before i a c (λ l. omega (arith, done-some s l, d)));
           rest = λ i a b. some-other g s 0 i (omega arith) (λ d. omega (arith, done-some s (omega (arith, a, d)), a, d)) ∙ A .rest i (omega (arith, done-on)) b;
         };
       })

@@ -1,10 +1,10 @@
 -- A new array holds no place. Assumes nothing.
 use Prim.Native.Nat.{ℕ, _-_, _/_, _%_, _<_}
-use mathlib.Core.Path.{_≡_, sym, ap, _∙_}
+use mathlib.Core.Path.{_≡_, ap, _∙_}
 use native.Mathlib.Omega.{arith}
 use lib.ListN.{getD, replicate, length-replicate, getD-replicate}
 use Rattle.step2_bits.specs.Sets.{bit, flag, flags, Sound, Empty}
-use Rattle.step2_bits.proofs.Digits.{one-zero, bit-zero}
+use Rattle.step2_bits.proofs.Digits.{bit-zero}
 use Rattle.step2_bits.proofs.Flags.{flags-at}
 
 word-zero : (b : ℕ) → b < 17 → getD {A = ℕ} (replicate 17 0) b 0 ≡ 0
@@ -20,8 +20,7 @@ sound-none = record {
   fits = λ b h. rw (word-zero b (omega arith)) (omega arith);
   within = λ s h l. flag-none s (omega arith);
   top = omega arith;
-  full = λ b h e. absurd (one-zero (sym e ∙ ap (λ (x : ℕ). bit x b) (word-zero 16 (omega arith)) ∙ bit-zero b));
-  empty = λ b h e. word-zero b (omega arith);
+  told = λ b h. rw (word-zero b (omega arith)) (bit-zero b);
 }
 
 pub flags-none : Empty (flags (replicate 17 0))

@@ -1,5 +1,5 @@
 -- Two sets with the same places are the same words, bit by bit. Assumes nothing.
-use Prim.Native.Nat.{ℕ, _+_, _-_, _*_, _/_, _%_, _<_}
+use Prim.Native.Nat.{ℕ, _+_, _-_, _*_, _/_, _%_, _<_, min}
 use mathlib.Core.Path.{_≡_, sym, ap, ap₂, _∙_}
 use mathlib.Core.Logic.{⊎-elim}
 use mathlib.Core.List.{List}
@@ -9,7 +9,7 @@ use lib.Seq.{ext-getD}
 use Rattle.words.specs.Reads.{at}
 use Rattle.words.proofs.Tests.{lt-or-ge}
 use Rattle.step2_bits.specs.Sets.{bit, flag, flags, Sound}
-use Rattle.step2_bits.proofs.Digits.{bit-two, bits-same}
+use Rattle.step2_bits.proofs.Digits.{bits-same}
 use Rattle.step2_bits.proofs.Flags.{flags-at}
 
 module _ (a : List ℕ) (c j : ℕ) (h : j < 64) where
@@ -37,12 +37,7 @@ module _ (a b : List ℕ) (A : Sound a) (B : Sound b) (same : flags a ≡ flags 
 
   last-same : getD a 16 0 ≡ getD b 16 0
   last-same =
-      bits-same 16 (getD a 16 0) (getD b 16 0) (A .top) (B .top)
-      (λ c h.
-      ⊎-elim
-      (λ d. ⊎-elim (λ e. d ∙ sym e) (λ e. absurd (B .full c h e (sym (word-same c h) ∙ A .empty c h d))) (bit-two (getD b 16 0) c))
-      (λ d. ⊎-elim (λ e. absurd (A .full c h d (word-same c h ∙ B .empty c h e))) (λ e. d ∙ sym e) (bit-two (getD b 16 0) c))
-      (bit-two (getD a 16 0) c))
+      bits-same 16 (getD a 16 0) (getD b 16 0) (A .top) (B .top) (λ c h. A .told c h ∙ ap (min 1) (word-same c h) ∙ sym (B .told c h))
 
   pub sound-once : a ≡ b
   sound-once =

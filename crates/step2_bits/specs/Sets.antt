@@ -1,6 +1,6 @@
 -- A set of places from 1 to 1,000 as bits of 64-bit words, lowest first: word b, from 0, has the places 64 * b + 1 to 64 * b + 64. The last word,
 -- 16, has a bit for each of the others that is not 0.
-use Prim.Native.Nat.{ℕ, _-_, _/_, _%_, _^_, _≤_, _<_}
+use Prim.Native.Nat.{ℕ, _-_, _/_, _%_, _^_, _≤_, _<_, min}
 use mathlib.Core.Path.{_≡_}
 use mathlib.Core.Logic.{_≢_}
 use mathlib.Core.List.{List}
@@ -26,8 +26,7 @@ pub record Sound (set : List ℕ) : Type 0 where
   pub fits : (b : ℕ) → b < 16 → getD set b 0 < 2 ^ 64
   pub within : (s : ℕ) → 1000 < s → s ≤ 1024 → flag set s ≡ 0
   pub top : getD set 16 0 < 2 ^ 16
-  pub full : (b : ℕ) → b < 16 → bit (getD set 16 0) b ≡ 1 → getD set b 0 ≢ 0
-  pub empty : (b : ℕ) → b < 16 → bit (getD set 16 0) b ≡ 0 → getD set b 0 ≡ 0
+  pub told : (b : ℕ) → b < 16 → bit (getD set 16 0) b ≡ min 1 (getD set b 0)
 
 -- f has no place
 pub record Empty (f : List ℕ) : Type 0 where

@@ -1,9 +1,5 @@
-pub mod Links
 pub mod Ranks
-pub mod Heads
-pub mod Taken
-pub mod Placed
+pub mod Stores
 pub mod Changed
 pub mod Rows
 pub mod Walks
-pub mod Seen

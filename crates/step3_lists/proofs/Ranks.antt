@@ -2,72 +2,56 @@
 -- differ and stay below 1,000. Assumes nothing.
 use mathlib.Core.Path.{_≡_}
 use mathlib.Core.Bool.{cond}
-use mathlib.Core.Logic.{_≢_, by-cases}
-use Prim.Native.Nat.{ℕ, _+_, _≤_, _<_}
-use native.Mathlib.Decide.{ℕ-discrete, decLt}
+use mathlib.Core.Logic.{_≢_, ⊎-elim}
+use Prim.Native.Nat.{ℕ, _+_, _<_}
 use native.Mathlib.Omega.{arith}
-use borrow.Author.Tests.{lt-ltb, le-ltb, eq-eqb, ne-eqb}
-use lib.Dec.{ltb, eqb}
+use borrow.Author.Tests.{lt-ltb, le-ltb}
+use lib.Dec.{ltb}
+use Rattle.words.proofs.Tests.{lt-or-ge}
 use Rattle.step3_lists.specs.Lists.{Place, Order}
 
--- the ranks when i is at the front
-unfoldable pub front : (ℕ → ℕ) → ℕ → ℕ → ℕ
-front rank i k = cond (eqb k i) 0 (cond (ltb (rank k) (rank i)) (rank k + 1) (rank k))
+-- the rank x, once rank t has come to the front
+unfoldable pub front : ℕ → ℕ → ℕ
+front t x = cond (ltb x t) (x + 1) (cond (ltb t x) x 0)
 
-module _ (rank : ℕ → ℕ) (i k : ℕ) where
-  pub front-least : k ≡ i → front rank i k ≡ 0
-  unfolding front
-  front-least e = simp (eq-eqb k i e)
+-- by cases on where x is
+front-cases : {X : Type 0} (t x : ℕ) → (x < t → front t x ≡ x + 1 → X) → (t < x → front t x ≡ x → X) → (x ≡ t → front t x ≡ 0 → X) → X
+unfolding front
+front-cases t x f g h =
+    ⊎-elim
+    (λ l. f l (simp (lt-ltb x t l)))
+    (λ l. ⊎-elim (λ m. g m (simp (le-ltb x t l, lt-ltb t x m))) (λ m. h (omega arith) (simp (le-ltb x t l, le-ltb t x m))) (lt-or-ge t x))
+    (lt-or-ge x t)
 
-  front-later : k ≢ i → rank k < rank i → front rank i k ≡ rank k + 1
-  unfolding front
-  front-later e h = simp (ne-eqb k i e, lt-ltb (rank k) (rank i) h)
+module _ (t x : ℕ) where
+  front-above : x ≢ t → front t t < front t x
+  front-above ne =
+      let zero : front t t ≡ 0 = front-cases t t (λ l e. absurd (omega arith)) (λ l e. absurd (omega arith)) (λ l e. e) in
+      front-cases t x (λ l e. omega arith) (λ l e. omega arith) (λ l e. absurd (ne l))
 
-  front-kept : k ≢ i → rank i ≤ rank k → front rank i k ≡ rank k
-  unfolding front
-  front-kept e h = simp (ne-eqb k i e, le-ltb (rank k) (rank i) h)
+  front-less : (y : ℕ) → x ≢ t → y ≢ t → x < y → front t x < front t y
+  front-less y nx ny h =
+      front-cases t x
+      (λ l e. front-cases t y (λ m f. omega arith) (λ m f. omega arith) (λ m f. absurd (ny m)))
+      (λ l e. front-cases t y (λ m f. omega arith) (λ m f. omega arith) (λ m f. absurd (ny m)))
+      (λ l e. absurd (nx l))
+
+  front-once : (y : ℕ) → front t x ≡ front t y → x ≡ y
+  front-once y q =
+      front-cases t x
+      (λ l e. front-cases t y (λ m f. omega arith) (λ m f. omega arith) (λ m f. omega arith))
+      (λ l e. front-cases t y (λ m f. omega arith) (λ m f. omega arith) (λ m f. omega arith))
+      (λ l e. front-cases t y (λ m f. omega arith) (λ m f. omega arith) (λ m f. omega arith))
 
 module _ (rank : ℕ → ℕ) (i : ℕ) (hi : Place i) (O : Order rank) where
-  other-rank : (k : ℕ) → Place k → k ≢ i → rank k ≢ rank i
-  other-rank k hk ne e = ne (O .once k i hk hi e)
+  pub order-above : (k : ℕ) → Place k → k ≢ i → front (rank i) (rank i) < front (rank i) (rank k)
+  order-above k hk ne = front-above (rank i) (rank k) (λ e. ne (O .once k i hk hi e))
 
-  pub front-above : (k : ℕ) → Place k → k ≢ i → 0 < front rank i k
-  front-above k hk ne =
-      by-cases (decLt (rank k) (rank i))
-      (λ h. omega (arith, front-later rank i k ne h))
-      (λ h. omega (arith, front-kept rank i k ne (omega arith), other-rank k hk ne))
+  pub order-less : (p k : ℕ) → Place p → Place k → p ≢ i → k ≢ i → rank p < rank k → front (rank i) (rank p) < front (rank i) (rank k)
+  order-less p k hp hk np nk = front-less (rank i) (rank p) (rank k) (λ e. np (O .once p i hp hi e)) (λ e. nk (O .once k i hk hi e))
 
-  pub front-less : (a b : ℕ) → Place b → a ≢ i → b ≢ i → rank a < rank b → front rank i a < front rank i b
-  front-less a b hb na nb l =
-      by-cases (decLt (rank a) (rank i))
-      (λ h. by-cases (decLt (rank b) (rank i))
-      (λ g. omega (arith, front-later rank i a na h, front-later rank i b nb g))
-      (λ g. omega (arith, front-later rank i a na h, front-kept rank i b nb (omega arith), other-rank b hb nb)))
-      (λ h. omega (arith, front-kept rank i a na (omega arith), front-kept rank i b nb (omega arith)))
-
-  front-once : (a b : ℕ) → Place a → Place b → a ≢ i → b ≢ i → front rank i a ≡ front rank i b → a ≡ b
-  front-once a b ha hb na nb e =
-      by-cases (decLt (rank a) (rank b))
-      (λ l. absurd (omega (arith, front-less a b hb na nb l)))
-      (λ l. by-cases (decLt (rank b) (rank a))
-      (λ m. absurd (omega (arith, front-less b a ha nb na m)))
-      (λ m. O .once a b ha hb (omega arith)))
-
-  pub front-order : Order (front rank i)
-  front-order =
-      record {
-        bound = λ k hk.
-            by-cases (ℕ-discrete k i)
-            (λ e. omega (arith, front-least rank i k e))
-            (λ e. by-cases (decLt (rank k) (rank i))
-            (λ h. omega (arith, front-later rank i k e h, O .bound i hi))
-            (λ h. omega (arith, front-kept rank i k e (omega arith), O .bound k hk)));
-        once = λ a b ha hb q.
-            by-cases (ℕ-discrete a i)
-            (λ e. by-cases (ℕ-discrete b i)
-            (λ f. omega arith)
-            (λ f. absurd (omega (arith, front-least rank i a e, front-above b hb f))))
-            (λ e. by-cases (ℕ-discrete b i)
-            (λ f. absurd (omega (arith, front-least rank i b f, front-above a ha e)))
-            (λ f. front-once a b ha hb e f q));
-      }
+  pub order-front : Order (λ k. front (rank i) (rank k))
+  order-front = record {
+    bound = λ k hk. front-cases (rank i) (rank k) (λ l e. omega (arith, O .bound i hi)) (λ l e. omega (arith, O .bound k hk)) (λ l e. omega arith);
+    once = λ j k hj hk e. O .once j k hj hk (front-once (rank i) (rank j) (rank k) e);
+  }

@@ -21,26 +21,21 @@ On dist d p = 0 < p → (p ≤ 1000) × (at dist p ≡ d)
 unfoldable pub to : List ℕ → List ℕ → ℕ → ℕ → ℕ
 to head after d p = cond (ltb 0 p) (at after p) (at head d)
 
--- p has the distance of i, and a lesser rank
-pub record Above (dist : List ℕ) (rank : ℕ → ℕ) (i p : ℕ) : Type 0 where
-  pub within : p ≤ 1000
-  pub same : at dist p ≡ at dist i
-  pub less : rank p < rank i
-
--- k is a place of distance d, and p is before it
-pub record Hit (dist before : List ℕ) (d p k : ℕ) : Type 0 where
+-- k follows p in the list of d: k is a place of it, p a link of it that is before k, and the rank rises
+pub record Step (dist head after before : List ℕ) (rank : ℕ → ℕ) (d p k : ℕ) : Type 0 where
+  pub link : On dist d p
   pub place : Place k
   pub same : at dist k ≡ d
   pub back : at before k ≡ p
+  pub next : to head after d p ≡ k
+  pub less : 0 < p → rank p < rank k
 
 -- the links of each place lead to the places before and after it in its list, whose ranks rise
 pub record Chains (dist head after before : List ℕ) (rank : ℕ → ℕ) : Type 0 where
-  -- what is before a place has the same distance, and a lesser rank
-  pub up : (i : ℕ) → Place i → 0 < at dist i → 0 < at before i → Above dist rank i (at before i)
-  -- a place follows what is before it
-  pub back : (i : ℕ) → Place i → 0 < at dist i → to head after (at dist i) (at before i) ≡ i
-  -- what follows p in the list of d is a place of distance d, and p is before it
-  pub forth : (d p k : ℕ) → Place d → On dist d p → to head after d p ≡ k → 0 < k → Hit dist before d p k
+  -- each place follows what is before it
+  pub back : (k : ℕ) → Place k → 0 < at dist k → Step dist head after before rank (at dist k) (at before k) k
+  -- what a link of the list of d leads to follows it
+  pub forth : (d p k : ℕ) → Place d → On dist d p → to head after d p ≡ k → 0 < k → Step dist head after before rank d p k
 
 -- the ranks of the 1,000 places are below 1,000, and differ
 pub record Order (rank : ℕ → ℕ) : Type 0 where

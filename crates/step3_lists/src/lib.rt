@@ -7,7 +7,7 @@ ghost use Rattle.words.specs.Reads.{at};
 ghost use Rattle.step1_rows.specs.Rows.{row, Long, DIST};
 ghost use Rattle.step2_bits.specs.Sets.{flags, Sound, Empty, Where};
 ghost use Rattle.step3_lists.specs.Listed.{Listed, Redone};
-ghost use Rattle.step3_lists.specs.Stores.{putSomeAt, leadAt};
+ghost use Rattle.step3_lists.specs.Stores.{Led, Stored};
 use step1_rows::AFTER;
 use step1_rows::BEFORE;
 use step1_rows::DIST;
@@ -18,8 +18,8 @@ use step2_bits::mark;
 
 // b becomes what follows p in the list of d
 fn lead(a: &mut [[u16; 1000]; 13], d: u16, p: u16, b: u16)
-    requires { ⌜ (1 ≤ d) × (d ≤ 1000) × (p ≤ 1000) ⌝ }
-    ensures { λ r. ⌜ now (a .exit) ≡ leadAt (now (a .entry)) d p b ⌝ }
+    requires { ⌜ Long (now a) × (1 ≤ d) × (d ≤ 1000) × (p ≤ 1000) ⌝ }
+    ensures { λ r. ⌜ Led (now (a .entry)) (now (a .exit)) d p b ⌝ }
 {
     if 0 < p {
         store(a, AFTER, p, b);
@@ -30,8 +30,8 @@ fn lead(a: &mut [[u16; 1000]; 13], d: u16, p: u16, b: u16)
 
 // v is stored at place j of row r, if there is such a place
 fn store_some(a: &mut [[u16; 1000]; 13], r: usize, j: u16, v: u16)
-    requires { ⌜ (r < 13) × (j ≤ 1000) ⌝ }
-    ensures { λ x. ⌜ now (a .exit) ≡ putSomeAt (now (a .entry)) r j v ⌝ }
+    requires { ⌜ Long (now a) × (r < 13) × (j ≤ 1000) ⌝ }
+    ensures { λ x. ⌜ Stored (now (a .entry)) (now (a .exit)) r j v ⌝ }
 {
     if 0 < j {
         store(a, r, j, v);

@@ -1,19 +1,28 @@
--- The rows after the first i positions, one position more at a time: it is the first of its group, or it joins those before it.
+-- The rows after the first i positions, one position more at a time: the last position that had its byte is the one before it in its group, or it is the first.
 -- Assumes nothing.
-use Prim.Native.Nat.{ℕ, _+_, _-_, _≤_, _<_}
-use mathlib.Core.Path.{_≡_, refl, sym, _∙_}
-use mathlib.Core.List.{List}
+use Prim.Native.Nat.{ℕ, zero, suc, _+_, _-_, _≤_, _<_}
+use mathlib.Core.Path.{_≡_, refl, sym, ap, _∙_}
+use mathlib.Core.Logic.{⊎-elim, by-cases, _≢_}
 use mathlib.Core.Bool.{false}
+use mathlib.Core.List.{List}
 use native.Mathlib.Omega.{arith}
-use lib.ListN.{length, getD, set, replicate}
-use lib.Seq.{set-getD}
+use native.Mathlib.Nat.{eq-or-lt-of-le}
+use native.Mathlib.Decide.{ℕ-discrete}
+use lib.ListN.{length, getD, set, replicate, length-set, length-replicate}
+use lib.Seq.{set-getD, getD-set-same, getD-set-other}
 use lib.Dec.{eqb}
+use borrow.Author.Tests.{eq-eqb, ne-eqb}
+use Rattle.words.specs.Range.{bit}
 use Rattle.words.specs.Reads.{at}
-use Rattle.words.specs.Groups.{table}
-use Rattle.words.proofs.Groups.{table-length, table-least}
-use Rattle.slots.specs.Slots.{put}
-use Rattle.slots.proofs.Laws.{some-is, some-none}
+use Rattle.words.specs.Groups.{table, size}
+use Rattle.words.proofs.Tests.{lt-or-ge}
+use Rattle.words.proofs.Sums.{count-none, count-le}
+use Rattle.words.proofs.Groups.{table-length, table-least, group-letter}
+use Rattle.words.proofs.Small.{all-small-at, all-small-length}
+use Rattle.slots.specs.Slots.{put, putSome}
+use Rattle.slots.proofs.Laws.{some-none, some-length, some-same, some-other, view-is}
 use Rattle.refine.specs.Phases.{Clean}
+use Rattle.refine.proofs.Links.{Before, nearest-gap, before-back}
 use Rattle.step1_rows.specs.Rows.{row, putAt, Long, NAME, SIZE, PREV, DIST, HEAD, AFTER, BEFORE, TAIL}
 use Rattle.step1_rows.proofs.Laws.{row-same, row-other, long-put}
 use Rattle.step2_bits.specs.Sets.{flags, Sound, Empty}
@@ -21,14 +30,18 @@ use Rattle.step2_bits.proofs.Flags.{flags-length}
 use Rattle.step3_lists.specs.Listed.{Listed}
 use Rattle.step3_lists.proofs.Changed.{lists-none}
 use Rattle.step4_fresh.specs.Fresh.{Blank, Joined, Began}
-use Rattle.step4_fresh.proofs.Linking.{LinkedTo, linked-start, linked-step, linked-names, linked-links, name-joined, name-first, before-far}
-use Rattle.step4_fresh.proofs.Counting.{CountedTo, counted-start, counted-below, counted-flag, counted-next, counted-step, counted-sized, counted-flagged}
+use Rattle.step4_fresh.proofs.Filling.{Filled, filled-none, filled-more, Near, Latest, latest-none, latest-same, latest-other, sizeTo, size-to-above, counted-more}
 
 -- the first i positions of the read x are done
 pub record Begun (x seen : List ℕ) (a : List (List ℕ)) (small : List ℕ) (i : ℕ) : Type 0 where
   pub long : Long a
-  pub linked : LinkedTo x (row a NAME) (row a PREV) (row a DIST) seen i
-  pub counted : CountedTo (table x 1) (row a SIZE) (flags small) i
+  pub names : Filled (λ j v. v ≡ at (table x 1) j) i (row a NAME)
+  pub prevs : Filled (Before (table x 1)) i (row a PREV)
+  pub dists : Filled (Near (table x 1) i) i (row a DIST)
+  pub flagged : Filled (λ j v. v ≡ bit (eqb (at (table x 1) j) j)) i (flags small)
+  pub counted : (s : ℕ) → 1 ≤ s → s ≤ 1000 → at (row a SIZE) s ≡ sizeTo (table x 1) i s
+  pub seen-long : length seen ≡ 256
+  pub latest : (b : ℕ) → Latest x i b (getD seen b 0)
   pub lists : Listed a
   pub tails : Clean (row a TAIL)
   pub sound : Sound small
@@ -38,77 +51,159 @@ put-kept : (l : List ℕ) (i v : ℕ) → at l i ≡ v → put l i v ≡ l
 unfolding put at
 put-kept l i v e = rw (← e) (set-getD l (i - 1) 0)
 
--- no position is done
-module _ (a : List (List ℕ)) (B : Blank a) where
-  blank-clean : (r : ℕ) → r < 13 → Clean (row a r)
-  blank-clean r h = record { long = B .long .each r h; none = λ i l m. B .none r i h l m }
+zeros-at : (m k : ℕ) → getD (replicate {A = ℕ} m 0) k 0 ≡ 0
+zeros-at zero k = refl
+zeros-at (suc m) zero = refl
+zeros-at (suc m) (suc k) = zeros-at m k
 
-  pub begun-start : (x small : List ℕ) → length x ≤ 1000 → Sound small → Empty (flags small) → Begun x (replicate 256 0) a small 0
-  begun-start x small few S E =
-      record {
-        long = B .long;
-        linked = linked-start x _ _ _ (blank-clean NAME (omega arith)) (blank-clean PREV (omega arith)) (blank-clean DIST (omega arith)) few;
-        counted = counted-start _ _ _ (blank-clean SIZE (omega arith)) (flags-length small) E;
-        lists =
-            lists-none _ _ _ _ (B .long .each DIST (omega arith)) (B .long .each HEAD (omega arith)) (B .long .each AFTER (omega arith)) (B .long .each BEFORE (omega arith))
-            (λ i p. B .none DIST i (omega arith) (p .0) (p .1))
-            (λ d p. B .none HEAD d (omega arith) (p .0) (p .1));
-        tails = blank-clean TAIL (omega arith);
-        sound = S;
-      }
+-- no position is done
+pub begun-start : (a : List (List ℕ)) → Blank a → (x small : List ℕ) → Sound small → Empty (flags small) → Begun x (replicate 256 0) a small 0
+begun-start a B x small S E =
+    let clean : (r : ℕ) → r < 13 → Clean (row a r) = λ r h. record { long = B .long .each r h; none = λ i l m. B .none r i h l m } in
+    record {
+      long = B .long;
+      names = filled-none _ _ (clean NAME (omega arith));
+      prevs = filled-none _ _ (clean PREV (omega arith));
+      dists = filled-none _ _ (clean DIST (omega arith));
+      flagged = filled-none _ _ (record { long = flags-length small; none = E .none });
+      counted = λ s l m. B .none SIZE s (omega arith) l m ∙ sym (count-none (λ j. eqb (at (table x 1) j) s) 0 1 (λ k c d. absurd (omega arith)));
+      seen-long = length-replicate {A = ℕ} 256 0;
+      latest = λ b. rw (zeros-at 256 b) (latest-none x b);
+      lists =
+          lists-none _ _ _ _ (B .long .each DIST (omega arith)) (B .long .each HEAD (omega arith)) (B .long .each AFTER (omega arith)) (B .long .each BEFORE (omega arith))
+          (λ i p. B .none DIST i (omega arith) (p .0) (p .1))
+          (λ d p. B .none HEAD d (omega arith) (p .0) (p .1));
+      tails = clean TAIL (omega arith);
+      sound = S;
+    }
+
+-- the byte of the next position
+pub byte-is : (x : List ℕ) (i k : ℕ) → k ≡ i → at x (i + 1) ≡ getD x k 0
+unfolding at
+byte-is x i k e = ap (λ (j : ℕ). getD x j 0) (omega arith)
 
 -- b is the byte of the next position
 module _ (x seen : List ℕ) (a : List (List ℕ)) (small : List ℕ) (i b : ℕ) (has : at x (i + 1) ≡ b) (B : Begun x seen a small i)
     (inside : i + 1 ≤ length x) (few : length x ≤ 1000) where
+  abbrev t : List ℕ
+  t = table x 1
+
   -- the last position that has it
   abbrev l : ℕ
   l = getD seen b 0
 
-  inside-table : i + 1 ≤ length (table x 1)
-  inside-table = rw (table-length x 1) inside
+  -- it is the position before the next one
+  before-is : Before t (i + 1) l
+  before-is =
+      let N = B .latest b in
+      record {
+        low = omega (arith, N .high);
+        same = λ m. group-letter x l (i + 1) m (omega (arith, N .high)) (omega arith) inside .1 (N .same m ∙ sym has);
+        free = λ k m d q. N .free k m (omega arith) (group-letter x k (i + 1) (omega arith) (omega arith) (omega arith) inside .0 q ∙ has);
+      }
 
-  last-below : l ≤ i
-  last-below = B .linked .latest b .high
+  -- so the distances are those of one position more
+  near-here : 1 ≤ l → Near t (i + 1) l (i + 1 - l)
+  near-here some =
+      let N = before-is in
+      let e : l + (i + 1 - l) ≡ i + 1 = omega (arith, N .low) in
+      record {
+        high = omega arith;
+        same = ap (at t) e ∙ sym (N .same some);
+        free = λ k m d q. N .free k m (omega arith) (q ∙ N .same some);
+        end = λ z. absurd (omega (arith, z, N .low));
+      }
+
+  near-kept : (j d : ℕ) → 1 ≤ j → j ≢ l → Near t i j d → Near t (i + 1) j d
+  near-kept j d low ne N =
+      record {
+        high = omega (arith, N .high);
+        same = N .same;
+        free = N .free;
+        end = λ z k m h e. ⊎-elim (λ (q : k ≡ i + 1). next z (sym (ap (at t) q) ∙ e)) (λ (n : k < i + 1). N .end z k m (omega arith) e) (eq-or-lt-of-le h);
+      }
+    where
+      -- the next position has only l before it
+      next : d ≡ 0 → at t (i + 1) ≡ at t j → ⊥
+      next z e =
+          let P = before-is in
+          ⊎-elim
+          (λ (m : l < j). P .free j m (omega (arith, N .high)) (sym e))
+          (λ m. N .end z l (omega arith) (omega (arith, P .low)) (P .same (omega arith) ∙ e))
+          (lt-or-ge l j)
+
+  near-at : (j : ℕ) → 1 ≤ j → j ≤ i + 1 → Near t (i + 1) j (at (putSome (row a DIST) l (i + 1 - l)) j)
+  near-at j m h = by-cases (ℕ-discrete j l) here there
+    where
+      here : j ≡ l → Near t (i + 1) j (at (putSome (row a DIST) l (i + 1 - l)) j)
+      here q = rw (q, some-same (row a DIST) l (i + 1 - l) (omega arith) (omega (arith, B .dists .long))) (near-here (omega arith))
+
+      there : j ≢ l → Near t (i + 1) j (at (putSome (row a DIST) l (i + 1 - l)) j)
+      there ne =
+          rw (some-other (row a DIST) l (i + 1 - l) j m ne)
+          (⊎-elim
+          (λ (q : j ≡ i + 1).
+          rw (B .dists .beyond j (omega arith) (omega arith))
+          (record { high = omega arith; same = ap (at t) (omega arith); free = λ k n d. absurd (omega arith); end = λ z k n d. absurd (omega arith) }))
+          (λ (n : j < i + 1). near-kept j (at (row a DIST) j) m ne (B .dists .held j m (omega arith)))
+          (eq-or-lt-of-le h))
+
+  -- the next position is done: its name is s
+  begun-more : (a′ : List (List ℕ)) (small′ : List ℕ) (s : ℕ) → at t (i + 1) ≡ s → 1 ≤ s → s ≤ 1000 → b < 256 → Joined a a′ l (i + 1) s
+      → Sound small′ → flags small′ ≡ put (flags small) (i + 1) (bit (eqb s (i + 1))) → Begun x (set seen b (i + 1)) a′ small′ (i + 1)
+  begun-more a′ small′ s is low high byte J S F =
+      record {
+        long = J .long;
+        names = rw (J .name) (filled-more _ i _ s (B .names) (omega arith) (sym is));
+        prevs = rw (J .prev) (filled-more _ i _ l (B .prevs) (omega arith) before-is);
+        dists = rw (J .dist)
+            (record {
+              long = some-length (row a DIST) l (i + 1 - l) ∙ B .dists .long;
+              held = near-at;
+              beyond = λ j m h. some-other (row a DIST) l (i + 1 - l) j (omega arith) (omega (arith, before-is .low)) ∙ B .dists .beyond j (omega arith) h;
+            });
+        flagged = rw F (filled-more _ i _ _ (B .flagged) (omega arith) (rw is refl));
+        counted = rw (J .size) (counted-more t (row a SIZE) i s (B .long .each SIZE (omega arith)) is low high (B .counted));
+        seen-long = length-set seen b (i + 1) ∙ B .seen-long;
+        latest = λ c. by-cases (ℕ-discrete c b)
+            (λ q. rw (q, getD-set-same seen b (i + 1) 0 (omega (arith, B .seen-long))) (latest-same x (i + 1) b has))
+            (λ ne. rw (getD-set-other seen b c (i + 1) 0 ne) (latest-other x i c (getD seen c 0) (λ e. ne (sym e ∙ has)) (B .latest c)));
+        lists = J .lists;
+        tails = rw (J .tail) (B .tails);
+        sound = S;
+      }
 
   -- the next position joins the group of l
   module _ (some : 1 ≤ l) where
-    named : at (table x 1) (i + 1) ≡ at (row a NAME) l
-    named = sym (name-joined x _ _ _ seen i b has (B .linked) inside few some)
+    named : at t (i + 1) ≡ at (row a NAME) l
+    named = sym (B .names .held l some (omega (arith, before-is .low)) ∙ before-is .same some)
 
-    named-within : (1 ≤ at (row a NAME) l) × (at (row a NAME) l ≤ 1000)
-    named-within = (
-      omega (arith, named, table-least x 1 .low (i + 1) (omega arith) inside-table),
-      omega (arith, named, table-least x 1 .high (i + 1) (omega arith) inside-table),
-    )
+    named-within : (1 ≤ at (row a NAME) l) × (at (row a NAME) l ≤ i)
+    named-within =
+        let m : l ≤ length t = omega (arith, before-is .low, table-length x 1) in
+        let e = B .names .held l some (omega (arith, before-is .low)) in
+        (omega (arith, e, table-least x 1 .low l some m), omega (arith, e, before-is .low, table-least x 1 .high l some m))
+
+    -- l has no distance yet
+    far : at (row a DIST) l ≡ 0
+    far =
+        let N = B .dists .held l some (omega (arith, before-is .low)) in
+        ⊎-elim (λ m. absurd (before-is .free (l + at (row a DIST) l) (omega arith) (omega (arith, N .high)) (N .same ∙ before-is .same some))) (λ m. omega arith) (lt-or-ge 0 (at (row a DIST) l))
 
     pub join-asks : Long a × Listed a × (1 ≤ l) × (l < i + 1) × (i + 1 ≤ 1000) × (1 ≤ at (row a NAME) l) × (at (row a NAME) l ≤ 1000)
         × (at (row a SIZE) (at (row a NAME) l) < 1000) × (at (row a DIST) l ≡ 0)
-    join-asks = (
-      B .long,
-      B .lists,
-      some,
-      omega (arith, last-below),
-      omega arith,
-      named-within .0,
-      named-within .1,
-      counted-below _ _ _ i _ (B .counted) (omega arith) (named-within .0) (named-within .1),
-      before-far x _ _ _ seen i b has (B .linked) inside few some,
-    )
+    join-asks =
+        let s = at (row a NAME) l in
+        let w = named-within in
+        let fewer : at (row a SIZE) s < 1000 = omega (arith, B .counted s (w .0) (omega (arith, w .1)), count-le (λ j. eqb (at t j) s) i 1) in
+        (B .long, B .lists, some, before-is .low, omega arith, w .0, omega (arith, w .1), fewer, far)
 
-    pub begun-next : (a′ : List (List ℕ)) → b < 256 → Joined a a′ l (i + 1) → Begun x (set seen b (i + 1)) a′ small (i + 1)
+    pub begun-next : (a′ : List (List ℕ)) → b < 256 → Joined a a′ l (i + 1) (at (row a NAME) l) → Begun x (set seen b (i + 1)) a′ small (i + 1)
     begun-next a′ byte J =
         let s = at (row a NAME) l in
-        let step = linked-step x _ _ _ seen i b has (B .linked) inside few s (sym named) byte in
-        let flag = counted-flag _ _ _ i s l (B .counted) (named-within .0) (named-within .1) some last-below (sym (B .linked .named l some last-below)) in
-        let count = counted-step _ _ _ i s named (named-within .0) (named-within .1) (B .counted) in
-        record {
-          long = J .long;
-          linked = rw (J .name, J .prev, J .dist) (rw (some-is (row a DIST) l (i + 1 - l) some) at step);
-          counted = rw (J .size) (rw (put-kept (flags small) s 1 flag) at count);
-          lists = J .lists;
-          tails = rw (J .tail) (B .tails);
-          sound = B .sound;
-        }
+        let w = named-within in
+        let flag = B .flagged .beyond (i + 1) (omega arith) (omega arith) ∙ sym (ap bit (ne-eqb s (i + 1) (λ e. omega (arith, e, w .1)))) in
+        begun-more a′ small s named (w .0) (omega (arith, w .1)) byte J (B .sound) (sym (put-kept (flags small) (i + 1) (bit (eqb s (i + 1))) flag))
 
   -- the next position is the first of its group
   pub begun-first : (small′ : List ℕ) → l ≡ 0 → b < 256 → Sound small′ → flags small′ ≡ put (flags small) (i + 1) 1
@@ -118,41 +213,54 @@ module _ (x seen : List ℕ) (a : List (List ℕ)) (small : List ℕ) (i b : ℕ
       let f = putAt a NAME j j in
       let g = putAt f SIZE j 1 in
       let lf = long-put a NAME j j (B .long) in
-      let first : j ≡ at (table x 1) j = name-first x _ _ _ seen i b has (B .linked) inside few none in
-      let name : row g NAME ≡ put (row a NAME) j j = row-other f SIZE j 1 NAME refl ∙ row-same a NAME j j (B .long) (omega arith) in
-      let size : row g SIZE ≡ put (row a SIZE) j 1 = row-same f SIZE j 1 lf (omega arith) ∙ rw (row-other a NAME j j SIZE refl) refl in
+      let m : j ≤ length t = omega (arith, table-length x 1) in
+      let L = table-least x 1 in
+      let first : at t j ≡ j =
+      ⊎-elim (λ q. q) (λ h. absurd (before-is .free (at t j) (omega (arith, L .low j (omega arith) m)) h (L .own j (omega arith) m))) (eq-or-lt-of-le (L .high j (omega arith) m)) in
+      let zero : at (row a SIZE) j ≡ 0 = B .counted j (omega arith) (omega arith) ∙ size-to-above t L i j (omega arith) (omega arith) in
       let kept : (r : ℕ) → eqb SIZE r ≡ false → eqb NAME r ≡ false → row g r ≡ row a r =
       λ r h k. row-other f SIZE j 1 r h ∙ row-other a NAME j j r k in
-      let zero : at (row a SIZE) j ≡ 0 = counted-next _ _ _ i (table-least x 1) inside-table (omega (arith, table-length x 1)) (B .counted) in
-      let none-before : at (row a PREV) j ≡ l = B .linked .prev-beyond j (omega arith) (omega arith) ∙ sym none in
-      let step = linked-step x _ _ _ seen i b has (B .linked) inside few j first byte in
-      let count = counted-step _ _ _ i j (sym first) (omega arith) (omega arith) (B .counted) in
-      record {
+      begun-more g small′ j first (omega arith) (omega arith) byte
+      (record {
         long = long-put f SIZE j 1 lf;
-        linked =
-            rw (name, kept PREV refl refl, kept DIST refl refl)
-            (rw (some-none (row a DIST) l (j - l) none, put-kept (row a PREV) j l none-before) at step);
-        counted = rw (size, flag) (rw zero at count);
+        name = row-other f SIZE j 1 NAME refl ∙ row-same a NAME j j (B .long) (omega arith);
+        size = row-same f SIZE j 1 lf (omega arith) ∙ rw (row-other a NAME j j SIZE refl, zero) refl;
+        prev = kept PREV refl refl ∙ sym (put-kept (row a PREV) j l (B .prevs .beyond j (omega arith) (omega arith) ∙ sym none));
+        dist = kept DIST refl refl ∙ sym (some-none (row a DIST) l (j - l) none);
+        tail = kept TAIL refl refl;
         lists = rw (kept DIST refl refl, kept HEAD refl refl, kept AFTER refl refl, kept BEFORE refl refl) (B .lists);
-        tails = rw (kept TAIL refl refl) (B .tails);
-        sound = S;
-      }
+      })
+      S (flag ∙ rw (eq-eqb j j refl) refl)
 
 -- every position is done
 pub begun-end : (x seen : List ℕ) (a : List (List ℕ)) (small : List ℕ) (n : ℕ) → length x ≡ n → n ≤ 1000 → Begun x seen a small n → Began x n a small
+unfolding size
 begun-end x seen a small n all few B =
-    let L = B .linked in
-    let long = table-length x 1 ∙ all in
+    let t = table x 1 in
+    let long : length t ≡ n = table-length x 1 ∙ all in
     record {
       long = B .long;
-      names = linked-names x _ _ _ seen n L all few;
-      name-beyond = L .name-beyond;
-      prev-beyond = L .prev-beyond;
-      dist-beyond = λ i h m. L .dist-beyond i (omega arith) m;
-      links = linked-links x _ _ _ seen n L all few;
-      sized = counted-sized _ _ _ n long few (B .counted) (table-least x 1);
+      names = view-is n (row a NAME) t long (omega (arith, B .names .long)) (B .names .held);
+      name-beyond = B .names .beyond;
+      prev-beyond = B .prevs .beyond;
+      dist-beyond = B .dists .beyond;
+      links = record {
+        next = λ i c d.
+            let N = B .dists .held i c (omega arith) in
+            sym (nearest-gap t i (at (row a DIST) i) c d (record { high = omega (arith, N .high); same = N .same; free = N .free; end = λ z k l m. N .end z k l (omega arith) }));
+        last = λ i c d. sym (before-back t i (at (row a PREV) i) c (B .prevs .held i c (omega arith)));
+      };
+      sized = record {
+        long = B .long .each SIZE (omega arith);
+        held = λ k c d. rw long (B .counted k c (omega arith));
+        beyond = λ k c d. B .counted k (omega arith) d ∙ size-to-above t (table-least x 1) n k (omega arith) (omega arith);
+      };
       lists = B .lists;
       tails = B .tails;
       sound = B .sound;
-      flags = counted-flagged _ _ _ n long few (B .counted) (table-least x 1);
+      flags = record {
+        long = B .flagged .long;
+        held = λ s c d. let h : s ≤ length t = rw (all-small-length t) at d in B .flagged .held s c (omega arith) ∙ sym (all-small-at t s c h);
+        rest = λ s c d. B .flagged .beyond s (omega (arith, all-small-length t)) d;
+      };
     }

@@ -1,12 +1,12 @@
 -- A position joins the group of the one before it: three stores leave the lists as they are, and then that one gets its distance. Assumes nothing.
-use Prim.Native.Nat.{ℕ, _+_, _-_}
-use mathlib.Core.Path.{_≡_, refl, ap, _∙_}
+use Prim.Native.Nat.{ℕ, _+_, _-_, _≤_}
+use mathlib.Core.Path.{_≡_, refl, sym, _∙_}
 use mathlib.Core.Bool.{false}
 use mathlib.Core.List.{List}
 use native.Mathlib.Omega.{arith}
 use lib.Dec.{eqb}
 use Rattle.words.specs.Reads.{at}
-use Rattle.slots.specs.Slots.{put}
+use Rattle.slots.proofs.Laws.{some-is}
 use Rattle.step1_rows.specs.Rows.{row, putAt, Long, among, NAME, SIZE, PREV, DIST, HEAD, AFTER, BEFORE, TAIL}
 use Rattle.step1_rows.proofs.Laws.{row-same, row-other, long-put, only-row}
 use Rattle.step3_lists.specs.Listed.{Listed, Redone}
@@ -30,21 +30,20 @@ module _ (a : List (List ℕ)) (L : Long a) (l i s v : ℕ) where
   pub stored-dist : (k : ℕ) → at (row a DIST) k ≡ 0 → at (row stored DIST) k ≡ 0
   stored-dist k e = rw (stored-kept DIST refl refl refl) e
 
-  pub joined : (b : List (List ℕ)) → s ≡ at (row a NAME) l → v ≡ at (row a SIZE) s + 1 → Redone stored b l (i - l) → Joined a b l i
+  pub joined : (b : List (List ℕ)) → v ≡ at (row a SIZE) s + 1 → 1 ≤ l → Redone stored b l (i - l) → Joined a b l i s
   unfolding among
-  joined b es ev R =
+  joined b ev some R =
       record {
         long = R .long;
         name =
-            only-row _ _ _ NAME (R .only) refl ∙ row-other _ SIZE s v NAME refl ∙ row-other _ PREV i l NAME refl ∙ row-same a NAME i s L (omega arith)
-            ∙ ap (put (row a NAME) i) es;
+            only-row _ _ _ NAME (R .only) refl ∙ row-other _ SIZE s v NAME refl ∙ row-other _ PREV i l NAME refl ∙ row-same a NAME i s L (omega arith);
         size =
             only-row _ _ _ SIZE (R .only) refl ∙ row-same _ SIZE s v (long-put _ PREV i l (long-put a NAME i s L)) (omega arith)
-            ∙ rw (row-other (putAt a NAME i s) PREV i l SIZE refl, row-other a NAME i s SIZE refl, ev, es) refl;
+            ∙ rw (row-other (putAt a NAME i s) PREV i l SIZE refl, row-other a NAME i s SIZE refl, ev) refl;
         prev =
             only-row _ _ _ PREV (R .only) refl ∙ row-other _ SIZE s v PREV refl ∙ row-same _ PREV i l (long-put a NAME i s L) (omega arith)
             ∙ rw (row-other a NAME i s PREV refl) refl;
-        dist = R .dist ∙ rw (stored-kept DIST refl refl refl) refl;
+        dist = R .dist ∙ rw (stored-kept DIST refl refl refl) (sym (some-is (row a DIST) l (i - l) some));
         tail = only-row _ _ _ TAIL (R .only) refl ∙ stored-kept TAIL refl refl refl;
         lists = R .lists;
       }

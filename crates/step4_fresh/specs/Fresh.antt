@@ -4,7 +4,7 @@ use mathlib.Core.Path.{_≡_}
 use mathlib.Core.List.{List}
 use Rattle.words.specs.Reads.{at}
 use Rattle.words.specs.Groups.{table, allSmall}
-use Rattle.slots.specs.Slots.{put, view}
+use Rattle.slots.specs.Slots.{put, putSome, view}
 use Rattle.refine.specs.Links.{Linked}
 use Rattle.refine.specs.Phases.{Bare, Clean, Sized, Flagged}
 use Rattle.step1_rows.specs.Rows.{row, Long, NAME, SIZE, PREV, DIST, TAIL}
@@ -16,13 +16,13 @@ pub record Blank (a : List (List ℕ)) : Type 0 where
   pub long : Long a
   pub none : (r i : ℕ) → r < 13 → 1 ≤ i → i ≤ 1000 → at (row a r) i ≡ 0
 
--- the rows b are a where the position i has joined the group of l, the position before it
-pub record Joined (a b : List (List ℕ)) (l i : ℕ) : Type 0 where
+-- the rows b are a where the position i has joined the group named s, behind l, the position before it; l is 0 if there is none
+pub record Joined (a b : List (List ℕ)) (l i s : ℕ) : Type 0 where
   pub long : Long b
-  pub name : row b NAME ≡ put (row a NAME) i (at (row a NAME) l)
-  pub size : row b SIZE ≡ put (row a SIZE) (at (row a NAME) l) (at (row a SIZE) (at (row a NAME) l) + 1)
+  pub name : row b NAME ≡ put (row a NAME) i s
+  pub size : row b SIZE ≡ put (row a SIZE) s (at (row a SIZE) s + 1)
   pub prev : row b PREV ≡ put (row a PREV) i l
-  pub dist : row b DIST ≡ put (row a DIST) l (i - l)
+  pub dist : row b DIST ≡ putSome (row a DIST) l (i - l)
   pub tail : row b TAIL ≡ row a TAIL
   pub lists : Listed b
 

@@ -39,7 +39,7 @@ fn first_letter(a: &mut [[u16; 1000]; 13], small: &mut [u64; 17], i: u16)
 fn next_letter(a: &mut [[u16; 1000]; 13], l: u16, i: u16)
     requires { ⌜ Long (now a) × Listed (now a) × (1 ≤ l) × (l < i) × (i ≤ 1000) × (1 ≤ at (row (now a) NAME) l) × (at (row (now a) NAME) l ≤ 1000)
         × (at (row (now a) SIZE) (at (row (now a) NAME) l) < 1000) × (at (row (now a) DIST) l ≡ 0) ⌝ }
-    ensures { λ r. ⌜ Joined (now (a .entry)) (now (a .exit)) l i ⌝ }
+    ensures { λ r. ⌜ Joined (now (a .entry)) (now (a .exit)) l i (at (row (now (a .entry)) NAME) l) ⌝ }
 {
     let s = load(a, NAME, l);
     let z = load(a, SIZE, s);

@@ -9,7 +9,7 @@ use Rattle.words.proofs.Ranges.{gather-next}
 use Rattle.slots.specs.Slots.{view, putSome}
 use Rattle.refine.specs.Refine.{leftOf, queue}
 use Rattle.refine.specs.Phases.{FlagsOf}
-use Rattle.refine.proofs.Lengths.{queue-short}
+use Rattle.refine.proofs.QueueMoves.{queue-short}
 use Rattle.step1_rows.specs.Rows.{row, Long, QUE}
 use Rattle.step2_bits.specs.Sets.{Empty, First}
 use Rattle.step2_bits.proofs.Emptying.{done, After, Taken, done-some, done-none, after-none, gather-on, taken, taken-empty, taken-inside}

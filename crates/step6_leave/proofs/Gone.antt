@@ -1,5 +1,5 @@
 -- The rows while one position leaves its group: what the stores of each function leave is what its record says. Assumes nothing.
-use Prim.Native.Nat.{ℕ, _+_, _-_, _≤_}
+use Prim.Native.Nat.{ℕ, _+_, _≤_}
 use mathlib.Core.Path.{_≡_, refl, sym, ap, _∙_}
 use mathlib.Core.Bool.{false}
 use mathlib.Core.List.{List, [], _∷_}
@@ -8,12 +8,12 @@ use lib.Dec.{eqb}
 use borrow.Author.Tests.{lt-ltb, le-ltb}
 use Rattle.words.specs.Reads.{at}
 use Rattle.slots.proofs.Laws.{put-same, some-is, some-none, some-other}
-use Rattle.step1_rows.specs.Rows.{row, putAt, Long, among, inside, PREV, DIST, HEAD, AFTER, BEFORE, PART, REST, MANY}
+use Rattle.step1_rows.specs.Rows.{row, putAt, Long, among, inside, PREV, DIST, HEAD, AFTER, BEFORE, REST}
 use Rattle.step1_rows.proofs.Laws.{row-same, row-other, long-put, only-none, only-put, only-trans, only-more, only-row}
 use Rattle.step3_lists.specs.Listed.{Listed, Redone}
 use Rattle.step6_leave.specs.Links.{joined, bridged}
-use Rattle.step6_leave.specs.Gone.{Leavable, restAfter, Closed, Detached, Gone, countedAt, Joinable}
-use Rattle.step6_leave.proofs.Stores.{put-again, put-held, joined-none, ahead-is, ahead-none}
+use Rattle.step6_leave.specs.Gone.{Leavable, restAfter, Closed, Detached, Gone}
+use Rattle.step6_leave.proofs.Stores.{put-again, put-held, ahead-is, ahead-none}
 
 abbrev Four : List ℕ
 Four = DIST ∷ HEAD ∷ AFTER ∷ BEFORE ∷ []
@@ -27,10 +27,6 @@ redone-again a b c i d e R T =
       lists = T .lists;
       only = only-trans Four a b c (R .only) (T .only);
     }
-
--- a place that loses its distance has none over a last position
-pub redone-last : (a b : List (List ℕ)) (i e d : ℕ) → d ≡ 0 → Redone a b i 0 → Redone a b i (joined e d)
-redone-last a b i e d h R = rw (joined-none e d h) R
 
 -- what stands at the changed place
 pub redone-here : (a b : List (List ℕ)) (i d : ℕ) → Long a → 1 ≤ i → i ≤ 1000 → Redone a b i d → at (row b DIST) i ≡ d
@@ -128,24 +124,3 @@ module _ (a b : List (List ℕ)) (k i p d : ℕ) (A : Leavable a k i) (hp : p �
             (only-more (REST ∷ Four) (PREV ∷ REST ∷ Four) a b refl (C .only))
             (only-more (PREV ∷ Four) (PREV ∷ REST ∷ Four) b c refl (D .only));
       }
-
--- ---- joining a part
-
-module _ (a : List (List ℕ)) (k t i : ℕ) (J : Joinable a k t i) where
-  abbrev c : ℕ
-  c = at (row a PART) k
-
-  abbrev z : ℕ
-  z = at (row a MANY) c + 1
-
-  pub counted-long : Long (countedAt a k t i)
-  unfolding countedAt
-  counted-long = long-put (putAt a MANY c z) PREV i t (long-put a MANY c z (J .long))
-
-  pub counted-lists : Listed (countedAt a k t i)
-  unfolding countedAt
-  counted-lists = listed-put (putAt a MANY c z) PREV i t refl refl refl refl (listed-put a MANY c z refl refl refl refl (J .lists))
-
-  pub counted-last : at (row (countedAt a k t i) DIST) t ≡ 0
-  unfolding countedAt
-  counted-last = rw (row-other (putAt a MANY c z) PREV i t DIST refl, row-other a MANY c z DIST refl) (J .last)

@@ -45,6 +45,6 @@ pub joined-some : (e d : ℕ) → 1 ≤ d → joined e d ≡ e + d
 unfolding joined
 joined-some e d h = rw (lt-ltb 0 d h)
 
-pub joined-none : (e d : ℕ) → d ≡ 0 → joined e d ≡ 0
+pub joined-none : (e d : ℕ) → d ≤ 0 → joined e d ≡ 0
 unfolding joined
-joined-none e d h = rw (le-ltb 0 d (omega arith))
+joined-none e d h = rw (le-ltb 0 d h)

@@ -1,15 +1,7 @@
 pub mod OneMove
 pub mod Codes
-pub mod Links
-pub mod Rests
-pub mod PartedCounts
-pub mod PartedPrior
-pub mod PartedTails
-pub mod PartedMany
-pub mod PartedLists
-pub mod PartedBounds
+pub mod Prior
 pub mod Parted
-pub mod PartedLeaving
-pub mod Taken
+pub mod Stepped
 pub mod MovedOn
 pub mod Turns

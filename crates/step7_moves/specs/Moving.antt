@@ -8,7 +8,7 @@ use lib.ListN.{length}
 use Rattle.words.specs.Range.{gather}
 use Rattle.words.specs.Reads.{at}
 use Rattle.slots.specs.Slots.{view}
-use Rattle.step1_rows.specs.Rows.{row, Long, NAME, SIZE, PREV, DIST, QUE, PART, TAIL, REST, MANY, TOUCHED}
+use Rattle.step1_rows.specs.Rows.{row, Long, NAME, PREV, DIST, QUE, REST}
 use Rattle.step3_lists.specs.Listed.{Listed}
 use Rattle.refine.specs.Refine.{nextOf}
 use Rattle.refine.specs.Links.{Linked}
@@ -22,8 +22,7 @@ use Rattle.step7_moves.specs.Moves.{Movable}
 pub record Lead (c : List ℕ) (k j : ℕ) : Type 0 where
   pub high : j ≤ length c
   pub same : 1 ≤ j → at c j ≡ k
-  pub free : (i : ℕ) → 1 ≤ i → i < j → at c i ≢ k
-  pub none : j ≡ 0 → (i : ℕ) → 1 ≤ i → i ≤ length c → at c i ≢ k
+  pub free : (i : ℕ) → 1 ≤ i → i ≤ length c → (1 ≤ j → i < j) → at c i ≢ k
 
 -- the rows a, from o, after the first s places of S: h parts and g groups were met, and the queue beyond is as it was
 pub record MovedTo (t S : List ℕ) (n s h g : ℕ) (o a : List (List ℕ)) : Type 0 where
@@ -33,7 +32,7 @@ pub record MovedTo (t S : List ℕ) (n s h g : ℕ) (o a : List (List ℕ)) : Ty
   pub links : Linked (codes t (nextOf t S) S s) (row a DIST) (row a PREV)
   pub prev-beyond : Bare n (row a PREV)
   pub dist-beyond : Kept n (row o DIST) (row a DIST)
-  pub parted : PartedTo t S s h g (row a TAIL) (row a SIZE) (row a PART) (row a MANY) (row a QUE) (row a TOUCHED)
+  pub parted : PartedTo t S s h g a
   pub ahead : (r : ℕ) → s < r → at (row a QUE) r ≡ at (row o QUE) r
   pub rests : (k : ℕ) → Split t S s k → Lead (codes t (nextOf t S) S s) k (at (row a REST) k)
 

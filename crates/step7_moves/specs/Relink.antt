@@ -30,3 +30,7 @@ pub record Place (c : List ℕ) (i x t : ℕ) : Type 0 where
 unfoldable pub codes : List ℕ → List ℕ → List ℕ → ℕ → List ℕ
 codes t u Q zero = t
 codes t u Q (suc q) = put (codes t u Q q) (at Q (suc q)) (1000 + at u (at Q (suc q)))
+
+-- one of the first q places of Q holds j
+abbrev pub Past : List ℕ → ℕ → ℕ → Type 0
+Past Q q j = (r : ℕ) × (1 ≤ r) × (r ≤ q) × (at Q r ≡ j)

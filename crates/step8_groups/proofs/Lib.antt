@@ -1,5 +1,3 @@
 pub mod Sweeps
-pub mod Stays
 pub mod Turning
-pub mod Stores
 pub mod Grouping

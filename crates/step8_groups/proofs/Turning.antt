@@ -1,179 +1,119 @@
--- One turn of `group_one`: the rows after its stores, in each of its three cases. What stays of a group that keeps its least position has its name
--- and its size already. Assumes nothing.
-use Prim.Native.Nat.{ℕ, _≤_}
-use mathlib.Core.Path.{_≡_, refl, sym, ap, _∙_}
+-- One turn of `group_one` over the rows: what its stores make together, in each of its three cases. Assumes nothing.
+use Prim.Native.Nat.{ℕ, _-_, _≤_}
+use mathlib.Core.Path.{_≡_, refl, sym, _∙_}
 use mathlib.Core.Logic.{_≢_, ⊎-elim}
-use mathlib.Core.Bool.{true, false}
+use mathlib.Core.Bool.{false}
 use mathlib.Core.List.{List, [], _∷_}
 use native.Mathlib.Omega.{arith}
-use lib.ListN.{length}
+use lib.ListN.{length, getD}
 use lib.Dec.{eqb}
 use lib.Seq.{set-getD}
+use borrow.Author.Tests.{lt-ltb, le-ltb}
 use Rattle.words.specs.Reads.{at}
-use Rattle.words.proofs.Tests.{either, clash}
+use Rattle.words.proofs.Tests.{lt-or-ge}
 use Rattle.slots.specs.Slots.{put, putSome}
 use Rattle.slots.proofs.Laws.{some-is, some-none}
-use Rattle.step1_rows.specs.Rows.{row, putAt, Long, among, inside, Only, NAME, SIZE, DIST, TAIL, REST, MANY}
-use Rattle.step1_rows.proofs.Laws.{row-same, row-other, long-put, only-put, only-trans, only-more, only-row}
-use Rattle.refine.specs.Refine.{has, nextOf, stayer}
-use Rattle.refine.proofs.Queues.{has-inside}
-use Rattle.refine.proofs.Next.{next-length, next-least}
-use Rattle.refine.proofs.Moved.{stayer-is, stayer-none}
+use Rattle.step1_rows.specs.Rows.{row, putAt, Long, among, Only, NAME, SIZE, DIST, TAIL, REST, MANY}
+use Rattle.step1_rows.proofs.Laws.{row-same, row-other, long-put, only-none, only-put, only-trans}
 use Rattle.step8_groups.specs.Sweep.{Walkable, Swept}
-use Rattle.step8_groups.specs.Turns.{Turn, Unnamed, RenamedOf, TurnMade}
-use Rattle.step8_groups.proofs.Stays.{stayer-high, stayer-old, kept-stayer, stayer-named, stayer-kept}
+use Rattle.step8_groups.specs.Turns.{stored, Due, Done}
 
 -- the rows that a turn writes
 abbrev pub WRITTEN : List ℕ
 WRITTEN = NAME ∷ SIZE ∷ TAIL ∷ MANY ∷ []
 
 -- what stood there stored again
-put-itself : (x : List ℕ) (k : ℕ) → put x k (at x k) ≡ x
-unfolding put at
-put-itself x k = set-getD x _ 0
+pub put-itself : (a : List (List ℕ)) (r k : ℕ) → putAt a r k (at (row a r) k) ≡ a
+unfolding putAt put row at
+put-itself a r k = rw (set-getD (getD a r []) (k - 1) 0) (set-getD a r [])
 
-module _ (t S : List ℕ) (k : ℕ) (a : List (List ℕ)) (T : Turn t S k a) where
-  pub turn-named : at t k ≡ k
-  turn-named = let s = T .splits in let b = has-inside S t (T .lined) (s .who) (s .moves) in rw (s .of) at (T .least .own (s .who) (b .0) (omega (arith, b .1)))
+-- ---- the rows after the stores
 
-  pub turn-inside : (1 ≤ k) × (k ≤ length t)
-  turn-inside =
-      let s = T .splits in
-      let b = has-inside S t (T .lined) (s .who) (s .moves) in
-      (omega (arith, s .of, T .least .low (s .who) (b .0) (omega (arith, b .1))), omega (arith, s .of, b .1, T .least .high (s .who) (b .0) (omega (arith, b .1))))
+module _ (a : List (List ℕ)) (k l : ℕ) where
+  abbrev v : ℕ
+  v = at (row a SIZE) k
 
-  -- the group's name and what REST holds for it are places, or the latter is 0
-  pub turn-places : (l : ℕ) → l ≡ at (row a REST) k → (1 ≤ k) × (k ≤ 1000) × (l ≤ 1000)
-  turn-places l e = (turn-inside .0, omega (arith, turn-inside .1, T .few), omega (arith, e, T .rest, stayer-high t S k, T .few))
+  stored-some : 1 ≤ l → stored a k l ≡ putAt (putAt (putAt a TAIL k 0) MANY l v) SIZE l v
+  unfolding stored
+  stored-some p = rw (lt-ltb 0 l p) refl
 
-  -- the tail, then the size as that of a part, then as that of a group
-  abbrev r : ℕ
-  r = at (row a SIZE) k
+  stored-none : l ≡ 0 → stored a k l ≡ putAt a TAIL k 0
+  unfolding stored
+  stored-none z = rw (le-ltb 0 l (omega arith)) refl
 
+  -- all but the names at once
+  pub stored-rows : Long a
+      → Only WRITTEN a (stored a k l) × (row (stored a k l) SIZE ≡ putSome (row a SIZE) l v) × (row (stored a k l) MANY ≡ putSome (row a MANY) l v) × (row (stored a k l) TAIL ≡ put (row a TAIL) k 0)
+  unfolding among
+  stored-rows L =
+      let L₁ = long-put a TAIL k 0 L in
+      let O = only-put WRITTEN a TAIL k 0 refl in
+      let tail = row-same a TAIL k 0 L (omega arith) in
+      ⊎-elim
+      (λ p.
+      rw (stored-some p, some-is (row a SIZE) l v p, some-is (row a MANY) l v p) (
+        only-trans WRITTEN a _ _ O (only-trans WRITTEN _ _ _ (only-put WRITTEN _ MANY l v refl) (only-put WRITTEN _ SIZE l v refl)),
+        row-same _ SIZE l v (long-put _ MANY l v L₁) (omega arith) ∙ rw (row-other _ MANY l v SIZE refl, row-other a TAIL k 0 SIZE refl) refl,
+        row-other _ SIZE l v MANY refl ∙ row-same _ MANY l v L₁ (omega arith) ∙ rw (row-other a TAIL k 0 MANY refl) refl,
+        row-other _ SIZE l v TAIL refl ∙ row-other _ MANY l v TAIL refl ∙ tail,
+      ))
+      (λ p.
+      let z : l ≡ 0 = omega arith in
+      rw (stored-none z, some-none (row a SIZE) l v z, some-none (row a MANY) l v z) (O, row-other a TAIL k 0 SIZE refl, row-other a TAIL k 0 MANY refl, tail))
+      (lt-or-ge 0 l)
+
+-- ---- the three cases: r is the size that is stored
+
+module _ (a : List (List ℕ)) (k l r : ℕ) (e : l ≡ at (row a REST) k) (f : r ≡ at (row a SIZE) k) (L : Long a) where
   abbrev a₁ : List (List ℕ)
   a₁ = putAt a TAIL k 0
 
-  abbrev a₂ : ℕ → List (List ℕ)
-  a₂ l = putAt a₁ MANY l r
+  abbrev a₂ : List (List ℕ)
+  a₂ = putAt a₁ MANY l r
 
-  abbrev a₃ : ℕ → List (List ℕ)
-  a₃ l = putAt (a₂ l) SIZE l r
+  abbrev a₃ : List (List ℕ)
+  a₃ = putAt a₂ SIZE l r
 
-  long₁ : Long a₁
-  long₁ = long-put a TAIL k 0 (T .long)
-
-  long₂ : (l : ℕ) → Long (a₂ l)
-  long₂ l = long-put a₁ MANY l r long₁
-
-  only₁ : Only WRITTEN a a₁
-  unfolding among
-  only₁ = only-put WRITTEN a TAIL k 0 refl
-
-  only₂ : (l : ℕ) → Only WRITTEN a (a₂ l)
-  unfolding among
-  only₂ l = only-trans WRITTEN a a₁ (a₂ l) only₁ (only-put WRITTEN a₁ MANY l r refl)
-
-  tails₁ : row a₁ TAIL ≡ put (row a TAIL) k 0
-  tails₁ = row-same a TAIL k 0 (T .long) (omega arith)
-
-  -- no name is given where what stays of the group has its own
-  names-idle : ((i : ℕ) → 1 ≤ i → i ≤ length t → Unnamed t S k i → ⊥) → (new : List ℕ) → new ≡ row a NAME → RenamedOf t S (row a NAME) new k
-  names-idle none new e = record { stays = λ i b c u. absurd (none i b c u); other = λ i b c u. ap (λ (x : List ℕ). at x i) e; beyond = λ i b c. ap (λ (x : List ℕ). at x i) e }
-
-  -- nothing stays
-  pub turn-gone : stayer t S k ≡ 0 → TurnMade t S k a a₁
+  -- nothing is left
+  pub turn-gone : l ≡ 0 → Done a a₁ k
   turn-gone z =
       record {
-        long = long₁;
-        only = only₁;
-        names = names-idle (λ i b c u. clash (stayer-none t S k z i b c (u .of)) (u .kept)) (row a₁ NAME) (row-other a TAIL k 0 NAME refl);
-        sizes = row-other a TAIL k 0 SIZE refl ∙ sym (some-none (row a SIZE) (stayer t S k) r z);
-        many = row-other a TAIL k 0 MANY refl ∙ sym (some-none (row a MANY) (stayer t S k) r z);
-        tails = tails₁;
+        long = long-put a TAIL k 0 L;
+        rows = rw (stored-none a k _ (sym e ∙ z)) (only-none (NAME ∷ []) a₁);
+        idle = λ _. row-other a TAIL k 0 NAME refl;
+        names = λ p. absurd (omega (arith, e, z));
       }
 
-  module _ (l : ℕ) (e : stayer t S k ≡ l) (p : 1 ≤ l) where
-    many₂ : row (a₂ l) MANY ≡ putSome (row a MANY) (stayer t S k) r
-    many₂ = row-same a₁ MANY l r long₁ (omega arith) ∙ rw (row-other a TAIL k 0 MANY refl, e) (sym (some-is (row a MANY) l r p))
+  -- the old name stays
+  pub turn-same : 1 ≤ l → l ≡ k → Done a a₂ k
+  turn-same p z =
+      record {
+        long = long-put a₁ MANY l r (long-put a TAIL k 0 L);
+        rows = rw (← e, stored-some a k l p, ← f) (rw all (only-none (NAME ∷ []) a₂));
+        idle = λ _. row-other a₁ MANY l r NAME refl ∙ row-other a TAIL k 0 NAME refl;
+        names = λ _ ne. absurd (ne (sym e ∙ z));
+      }
+    where
+      all : a₃ ≡ a₂
+      all =
+          let d : at (row a₂ SIZE) l ≡ r = rw (row-other a₁ MANY l r SIZE refl, row-other a TAIL k 0 SIZE refl, z) (sym f) in
+          rw d at (put-itself a₂ SIZE l)
 
-    tails₂ : row (a₂ l) TAIL ≡ put (row a TAIL) k 0
-    tails₂ = row-other a₁ MANY l r TAIL refl ∙ tails₁
+  -- it moves, and what is left is named by a walk
+  module _ (p : 1 ≤ l) (ne : l ≢ k) where
+    row₃ : (x : ℕ) → eqb TAIL x ≡ false → eqb MANY x ≡ false → eqb SIZE x ≡ false → row a₃ x ≡ row a x
+    row₃ x b c d = row-other a₂ SIZE l r x d ∙ row-other a₁ MANY l r x c ∙ row-other a TAIL k 0 x b
 
-    -- the least position stays
-    pub turn-same : l ≡ k → TurnMade t S k a (a₂ l)
-    turn-same s =
+    pub turn-walk : Due a k → Long a₃ × ((u : List ℕ) × Walkable u (row a₃ DIST) l)
+    turn-walk D =
+        let W = D .walk (rw (← e) p) in
+        (long-put a₂ SIZE l r (long-put a₁ MANY l r (long-put a TAIL k 0 L)), (W .0, rw (row₃ DIST refl refl refl, e) (W .1)))
+
+    pub turn-renamed : (b : List (List ℕ)) → Long b → Only (NAME ∷ []) a₃ b → ((u : List ℕ) → Walkable u (row a₃ DIST) l → Swept u (row a₃ NAME) (row b NAME) l (length u)) → Done a b k
+    turn-renamed b B O W =
         record {
-          long = long₂ l;
-          only = only₂ l;
-          names = names-idle (λ i b c u. clash (u .gone) (rw s at (stayer-is t S k l e p .kept))) (row (a₂ l) NAME) (row-other a₁ MANY l r NAME refl ∙ row-other a TAIL k 0 NAME refl);
-          sizes = row-other a₁ MANY l r SIZE refl ∙ row-other a TAIL k 0 SIZE refl ∙ rw (e, s) (sym (some-is (row a SIZE) k r (turn-inside .0) ∙ put-itself (row a SIZE) k));
-          many = many₂;
-          tails = tails₂;
+          long = B;
+          rows = rw (← e, stored-some a k l p, ← f) O;
+          idle = λ o. absurd (⊎-elim (λ z. omega (arith, e, z)) (λ z. ne (e ∙ z)) o);
+          names = λ _ _ u X. rw (row₃ NAME refl refl refl, e) at (W u (rw (row₃ DIST refl refl refl, e) X));
         }
-
-    -- it moves
-    module _ (ne : l ≢ k) where
-      gone : has S k ≡ true
-      gone = ⊎-elim (λ h. h) (λ h. absurd (ne (sym e ∙ stayer-old t S (T .least) k (turn-inside .0) (turn-inside .1) turn-named h))) (either (has S k))
-
-      pub long₃ : Long (a₃ l)
-      long₃ = long-put (a₂ l) SIZE l r (long₂ l)
-
-      dist₃ : row (a₃ l) DIST ≡ row a DIST
-      dist₃ = row-other (a₂ l) SIZE l r DIST refl ∙ row-other a₁ MANY l r DIST refl ∙ row-other a TAIL k 0 DIST refl
-
-      name₃ : row (a₃ l) NAME ≡ row a NAME
-      name₃ = row-other (a₂ l) SIZE l r NAME refl ∙ row-other a₁ MANY l r NAME refl ∙ row-other a TAIL k 0 NAME refl
-
-      pub turn-walkable : Walkable (nextOf t S) (row (a₃ l) DIST) l
-      turn-walkable =
-          record {
-            few = rw (next-length t S) (T .few);
-            least = next-least t S;
-            gaps = rw dist₃ (T .gaps);
-            low = p;
-            high = rw (next-length t S) (stayer-is t S k l e p .high);
-            own = stayer-named t S (T .least) (T .lined) k l e p;
-          }
-
-      pub stores-are : (x₁ x₂ x₃ : List (List ℕ)) (v : ℕ) → v ≡ r → x₁ ≡ a₁ → x₂ ≡ putAt x₁ MANY l v → x₃ ≡ putAt x₂ SIZE l v → x₃ ≡ a₃ l
-      stores-are x₁ x₂ x₃ v f f₁ f₂ f₃ = f₃ ∙ rw (f₂, f₁, f) refl
-
-      -- the rows b after the walk
-      only₄ : (b : List (List ℕ)) → Only (NAME ∷ []) (a₃ l) b → Only WRITTEN a b
-      unfolding among inside
-      only₄ b O = only-trans WRITTEN a (a₂ l) b (only₂ l) (only-trans WRITTEN (a₂ l) (a₃ l) b (only-put WRITTEN (a₂ l) SIZE l r refl) (only-more (NAME ∷ []) WRITTEN (a₃ l) b refl O))
-
-      row₄ : (b : List (List ℕ)) → Only (NAME ∷ []) (a₃ l) b → (x : ℕ) → eqb NAME x ≡ false → row b x ≡ row (a₃ l) x
-      unfolding among
-      row₄ b O x f = only-row (NAME ∷ []) (a₃ l) b x O (rw f)
-
-      -- the walk names what stays of k, and nothing else
-      names-swept : (new : List ℕ) → Swept (nextOf t S) (row a NAME) new l (length (nextOf t S)) → RenamedOf t S (row a NAME) new k
-      names-swept new W =
-          record {
-            stays = λ i b c u.
-                let s = kept-stayer t S (T .least) (T .lined) k l e p i b c (u .kept) (u .of) in
-                W .named i b (rw (next-length t S) c) s ∙ sym s;
-            other = λ i b c none.
-                W .other i b (rw (next-length t S) c)
-                (λ s. let w = stayer-kept t S (T .least) (T .lined) k l e p i b c s in none (record { kept = w .0; of = w .1; gone = gone }));
-            beyond = λ i b c. W .beyond i (rw (next-length t S) b) c;
-          }
-
-      pub turn-renamed : (x : List (List ℕ)) → x ≡ a₃ l
-          → (b : List (List ℕ)) → Long b × Only (NAME ∷ []) x b × ((u : List ℕ) → Walkable u (row x DIST) l → Swept u (row x NAME) (row b NAME) l (length u)) → TurnMade t S k a b
-      turn-renamed x f b R = go (rw f at R)
-        where
-          go : Long b × Only (NAME ∷ []) (a₃ l) b × ((u : List ℕ) → Walkable u (row (a₃ l) DIST) l → Swept u (row (a₃ l) NAME) (row b NAME) l (length u)) → TurnMade t S k a b
-          go (B, O, W) =
-              record {
-                long = B;
-                only = only₄ b O;
-                names = names-swept (row b NAME) (rw name₃ at (W (nextOf t S) turn-walkable));
-                sizes = row₄ b O SIZE refl
-                    ∙ row-same (a₂ l) SIZE l r (long₂ l) (omega arith)
-                    ∙ rw (row-other a₁ MANY l r SIZE refl ∙ row-other a TAIL k 0 SIZE refl, e) (sym (some-is (row a SIZE) l r p));
-                many = row₄ b O MANY refl ∙ row-other (a₂ l) SIZE l r MANY refl ∙ many₂;
-                tails = row₄ b O TAIL refl ∙ row-other (a₂ l) SIZE l r TAIL refl ∙ tails₂;
-              }

@@ -5,7 +5,7 @@ ghost use Prim.Native.Nat.{ℕ};
 ghost use lib.ListN.{length};
 ghost use Rattle.step1_rows.specs.Rows.{row, Long, Only, NAME, SIZE, DIST, TAIL, MANY};
 ghost use Rattle.step8_groups.specs.Sweep.{Walkable, Swept};
-ghost use Rattle.step8_groups.specs.Turns.{Turn, TurnMade};
+ghost use Rattle.step8_groups.specs.Turns.{Due, Done};
 ghost use Rattle.step8_groups.specs.Groups.{Turnable, Regrouped};
 use slots::wide;
 use step1_rows::DIST;
@@ -37,8 +37,8 @@ pub fn rename(a: &mut [[u16; 1000]; 13], h: u16)
 
 // the turn of the group k
 fn group_one(a: &mut [[u16; 1000]; 13], k: u16)
-    requires { ⌜ ((t : List ℕ) × (S : List ℕ) × Turn t S k (now a)) ⌝ }
-    ensures { λ r. ⌜ ((t S : List ℕ) → Turn t S k (now (a .entry)) → TurnMade t S k (now (a .entry)) (now (a .exit))) ⌝ }
+    requires { ⌜ Due (now a) k ⌝ }
+    ensures { λ r. ⌜ Done (now (a .entry)) (now (a .exit)) k ⌝ }
 {
     let l = load(a, REST, k);
     let r = load(a, SIZE, k);

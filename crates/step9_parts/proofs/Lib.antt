@@ -1,9 +1,4 @@
-pub mod Had
 pub mod Order
-pub mod Tried
-pub mod Names
-pub mod Sizes
 pub mod Choosing
-pub mod Chosen
 pub mod Weighing
 pub mod Turning

@@ -2,25 +2,24 @@
 -- positions that left one, and `nextOf t S` the table afterwards.
 use Prim.Native.Nat.{ℕ, _≤_}
 use mathlib.Core.Path.{_≡_}
-use mathlib.Core.Bool.{cond}
 use mathlib.Core.List.{List, [], _∷_}
 use lib.ListN.{length}
 use Rattle.words.specs.Reads.{at}
 use Rattle.words.specs.Groups.{partsSmall}
-use Rattle.slots.specs.Slots.{put, putSome, view}
+use Rattle.slots.specs.Slots.{putSome, view}
 use Rattle.step1_rows.specs.Rows.{row, putAt, Long, Only, NAME, SIZE, DIST, QUE, REST, MANY}
 use Rattle.step2_bits.specs.Sets.{flags, Sound}
 use Rattle.refine.specs.Refine.{nextOf}
 use Rattle.refine.specs.Phases.{Bare, Sized, Flagged}
 use Rattle.step8_groups.specs.Sweep.{Walkable, Swept}
 use Rattle.step8_groups.specs.Groups.{Regrouped}
-use Rattle.step9_parts.specs.Turns.{takes, loser, TurnedTo}
+use Rattle.step9_parts.specs.Turns.{winner, loser, TurnedTo}
 
 -- ---- one turn
 
--- the rows once the part c of the group k is weighed: it is the best of k from now on, or nothing is stored
+-- the rows once the part c of the group k is weighed: the better one is the best of k from now on
 unfoldable pub weighed : List (List ℕ) → ℕ → ℕ → List (List ℕ)
-weighed a k c = cond (takes (row a MANY) (at (row a REST) k) c) (putAt a REST k c) a
+weighed a k c = putAt a REST k (winner (row a MANY) (at (row a REST) k) c)
 
 -- the flags f after it: whichever of the two is not the best has one
 unfoldable pub withLoser : List (List ℕ) → List ℕ → ℕ → ℕ → List ℕ
@@ -39,11 +38,9 @@ pub record Due (a : List (List ℕ)) (c : ℕ) : Type 0 where
 -- what it does: c is weighed, gets its size, and its positions get its name
 pub record Done (a b : List (List ℕ)) (f g : List ℕ) (c : ℕ) : Type 0 where
   pub long : Long b
-  pub only : Only (NAME ∷ SIZE ∷ REST ∷ []) a b
-  pub rests : row b REST ≡ row (weighed a (at (row a NAME) c) c) REST
-  pub flags-are : g ≡ withLoser a f (at (row a NAME) c) c
-  pub sizes : row b SIZE ≡ put (row a SIZE) c (at (row a MANY) c)
+  pub rows : Only (NAME ∷ []) (putAt (weighed a (at (row a NAME) c) c) SIZE c (at (row a MANY) c)) b
   pub names : (u : List ℕ) → Walkable u (row a DIST) c → Swept u (row a NAME) (row b NAME) c (length u)
+  pub flags-are : g ≡ withLoser a f (at (row a NAME) c) c
 
 -- ---- all turns
 
@@ -52,7 +49,7 @@ pub record Turning (n h q : ℕ) (a b : List (List ℕ)) (w : List ℕ) : Type 0
   pub long : Long b
   pub only : Only (NAME ∷ SIZE ∷ REST ∷ []) a b
   pub sound : Sound w
-  pub each : (t S : List ℕ) → Regrouped t S n h a → TurnedTo t S (row a QUE) q b (flags w)
+  pub each : (t S : List ℕ) → Regrouped t S n h a → TurnedTo t S (row a QUE) h q b (flags w)
 
 -- and after all: the names and the sizes of the new groups, of which all but the big parts are small
 pub record Turned (t S : List ℕ) (n : ℕ) (a b : List (List ℕ)) (w : List ℕ) : Type 0 where

@@ -1,44 +1,26 @@
 -- What `fresh` leaves are the groups of a read at width 1, all of them small. Assumes nothing.
-use Prim.Native.Nat.{ℕ, _≤_, _<_}
-use mathlib.Core.Path.{_≡_, refl, sym, ap, _∙_}
-use mathlib.Core.Logic.{_⊎_, inl, inr}
-use mathlib.Core.Bool.{Bool, true, false}
+use Prim.Native.Nat.{ℕ, _≤_}
+use mathlib.Core.Path.{_≡_, sym, ap, _∙_}
 use mathlib.Core.List.{List}
 use native.Mathlib.Omega.{arith}
 use lib.ListN.{length, replicate}
 use lib.Dec.{eqb}
 use borrow.Author.Tests.{eqb-true}
-use Rattle.words.specs.Range.{bit}
 use Rattle.words.specs.Reads.{at}
 use Rattle.words.specs.Groups.{table, allSmall, smalls}
-use Rattle.words.proofs.Tests.{lt-or-ge}
 use Rattle.words.proofs.Groups.{table-length, table-least}
 use Rattle.words.proofs.Small.{all-small-at, all-small-length, smalls-first}
 use Rattle.slots.proofs.Laws.{view-is}
 use Rattle.step2_bits.specs.Sets.{flags, Sound, Empty}
 use Rattle.step2_bits.proofs.None.{sound-none, flags-none}
-use Rattle.refine.specs.Phases.{FlagsOf, Flagged}
 use Rattle.step4_fresh.specs.Fresh.{Blank, Began}
 use Rattle.step4_fresh.proofs.Blank.{blank-zeros}
 use Rattle.steps.specs.Held.{Stands}
-
--- where every group is small, flags are flags of names
-flags-of-all : (t small : List ℕ) → Flagged (allSmall t) small → FlagsOf t small
-flags-of-all t small F = record { long = F .long; flag = λ s a b. flag s a b (lt-or-ge (length t) s) }
-  where
-    flag : (s : ℕ) → 1 ≤ s → s ≤ 1000 → (length t < s) ⊎ (s ≤ length t) → (at small s ≡ 0) ⊎ ((at small s ≡ 1) × (s ≤ length t) × (at t s ≡ s))
-    flag s a b (inl l) = inl (F .rest s (omega (arith, all-small-length t)) b)
-    flag s a b (inr l) = go (eqb (at t s) s) refl
-      where
-        e : at small s ≡ bit (eqb (at t s) s)
-        e = F .held s a (omega (arith, all-small-length t)) ∙ all-small-at t s a l
-
-        go : (v : Bool) → eqb (at t s) s ≡ v → (at small s ≡ 0) ⊎ ((at small s ≡ 1) × (s ≤ length t) × (at t s ≡ s))
-        go true q = inr (e ∙ ap bit q, l, eqb-true (at t s) s q)
-        go false q = inl (e ∙ ap bit q)
+use Rattle.steps.proofs.Phases.{flags-of-names}
 
 pub began-stands : (x : List ℕ) (n : ℕ) (a : List (List ℕ)) (small : List ℕ) → n ≤ 1000 → length x ≡ n → Began x n a small → Stands x 1 n a small
 began-stands x n a small few long B =
+    let t = table x 1 in
     record {
       held =
           record {
@@ -53,7 +35,8 @@ began-stands x n a small few long B =
             lists = B .lists;
             tails = B .tails;
             sound = B .sound;
-            flags-of = rw (B .names) (flags-of-all (table x 1) (flags small) (B .flags));
+            flags-of = rw (B .names)
+                (flags-of-names t (allSmall t) (flags small) (λ s. eqb (at t s) s) (all-small-length t) (all-small-at t) (λ s q. eqb-true (at t s) s q) (B .flags));
           };
       long = sym long;
       names = B .names;

@@ -1,7 +1,7 @@
 -- One width: what each phase leaves is what the next one asks, and what the last leaves are groups again. Assumes nothing.
 use Prim.Native.Nat.{ℕ, _≤_, _<_}
 use mathlib.Core.Path.{_≡_, refl, sym, ap, subst, _∙_}
-use mathlib.Core.Logic.{_⊎_, inl, inr}
+use mathlib.Core.Logic.{inl, inr, ⊎-elim}
 use mathlib.Core.Bool.{Bool, true, false, _&&_, not}
 use mathlib.Core.List.{List, [], _∷_}
 use native.Mathlib.Omega.{arith}
@@ -11,7 +11,7 @@ use borrow.Author.Tests.{eqb-true}
 use Rattle.words.specs.Range.{bit}
 use Rattle.words.specs.Reads.{at}
 use Rattle.words.specs.Groups.{big, partsSmall}
-use Rattle.words.proofs.Tests.{and-left, lt-or-ge}
+use Rattle.words.proofs.Tests.{either, and-left, lt-or-ge}
 use Rattle.words.proofs.Small.{parts-small-at, parts-small-length}
 use Rattle.slots.specs.Slots.{view}
 use Rattle.slots.proofs.Laws.{view-length, view-is}
@@ -24,27 +24,26 @@ use Rattle.refine.specs.Phases.{FlagsOf, Flagged}
 use Rattle.refine.specs.Leaving.{leaving, Known}
 use Rattle.refine.proofs.Next.{next-length, next-least}
 use Rattle.refine.proofs.Queue.{queue-lined}
-use Rattle.refine.proofs.Lengths.{queue-length, queue-short}
+use Rattle.refine.proofs.QueueMoves.{queue-length, queue-short}
 use Rattle.refine.proofs.Leaving.{leaving-lined, leaving-next}
 use Rattle.step7_moves.specs.Moves.{Moved}
 use Rattle.step8_groups.specs.Groups.{Turnable, Regrouped}
 use Rattle.step9_parts.specs.Parts.{Turned}
 use Rattle.steps.specs.Held.{Held, Queued, Refined, Advanced}
 
--- flags of parts are flags of names
-flags-of-parts : (t u small : List ℕ) → length u ≤ 1000 → Flagged (partsSmall t u) small → FlagsOf u small
-flags-of-parts t u small few F = record { long = F .long; flag = λ s a b. flag s a b (lt-or-ge (length u) s) }
-  where
-    one : (s : ℕ) → s ≤ length u → (b : Bool) → at small s ≡ bit (eqb (at u s) s && b) → (at small s ≡ 0) ⊎ ((at small s ≡ 1) × (s ≤ length u) × (at u s ≡ s))
-    one s c b e = go (eqb (at u s) s && b) refl
-      where
-        go : (v : Bool) → eqb (at u s) s && b ≡ v → (at small s ≡ 0) ⊎ ((at small s ≡ 1) × (s ≤ length u) × (at u s ≡ s))
-        go true q = inr (e ∙ ap bit q, c, eqb-true (at u s) s (and-left (eqb (at u s) s) b q))
-        go false q = inl (e ∙ ap bit q)
-
-    flag : (s : ℕ) → 1 ≤ s → s ≤ 1000 → (length u < s) ⊎ (s ≤ length u) → (at small s ≡ 0) ⊎ ((at small s ≡ 1) × (s ≤ length u) × (at u s ≡ s))
-    flag s a b (inl l) = inl (F .rest s (omega (arith, parts-small-length u t)) b)
-    flag s a b (inr l) = one s l (not (big t u s)) (F .held s a (omega (arith, parts-small-length u t)) ∙ parts-small-at u t s a l)
+-- flags that only names have are flags of names
+pub flags-of-names : (t f small : List ℕ) (p : ℕ → Bool) → length f ≡ length t → ((s : ℕ) → 1 ≤ s → s ≤ length t → at f s ≡ bit (p s))
+    → ((s : ℕ) → p s ≡ true → at t s ≡ s) → Flagged f small → FlagsOf t small
+flags-of-names t f small p long is named F =
+    record {
+      long = F .long;
+      flag = λ s a b. ⊎-elim
+          (λ (l : length t < s). inl (F .rest s (omega arith) b))
+          (λ l.
+          let e : at small s ≡ bit (p s) = F .held s a (omega arith) ∙ is s a l in
+          ⊎-elim (λ q. inr (e ∙ ap bit q, l, named s q)) (λ q. inl (e ∙ ap bit q)) (either (p s)))
+          (lt-or-ge (length t) s);
+    }
 
 -- lists by distance stay where their rows do
 lists-same : (a b : List (List ℕ)) → row b DIST ≡ row a DIST → row b HEAD ≡ row a HEAD → row b AFTER ≡ row a AFTER → row b BEFORE ≡ row a BEFORE → Listed a → Listed b
@@ -165,6 +164,8 @@ module _ (n m : ℕ) (a : List (List ℕ)) (small : List ℕ) (D : Queued n m a 
                   lists = lists-same b d (stays DIST refl refl) (stays HEAD refl refl) (stays AFTER refl refl) (stays BEFORE refl refl) (M .lists);
                   tails = rw (only-row (NAME ∷ SIZE ∷ REST ∷ []) c d TAIL (T .only) refl) (R .tails);
                   sound = T .sound;
-                  flags-of = rw (T .names) (flags-of-parts old u (flags w) (omega (arith, next-length old S, old-long, D .movable .few)) (T .flags-are));
+                  flags-of = rw (T .names)
+                      (flags-of-names u (partsSmall old u) (flags w) (λ s. eqb (at u s) s && not (big old u s)) (parts-small-length u old) (parts-small-at u old)
+                      (λ s q. eqb-true (at u s) s (and-left (eqb (at u s) s) (not (big old u s)) q)) (T .flags-are));
                 };
           }

@@ -1,36 +1,17 @@
--- What the code reads at a place of a table, a log or a list, as the definitions say it of a position, an entry or a row. Assumes nothing.
+-- What the code reads of a log or a list, as the definitions say it of an entry or a row. Assumes nothing.
 use Prim.Native.Nat.{ℕ, _+_, _-_, _*_, _≤_}
-use mathlib.Core.Path.{_≡_, sym, ap, _∙_}
+use mathlib.Core.Path.{_≡_, ap}
 use mathlib.Core.Logic.{_≢_}
-use mathlib.Core.Bool.{Bool, true, not}
+use mathlib.Core.Bool.{true, not}
 use mathlib.Core.List.{List}
 use native.Mathlib.Omega.{arith}
 use native.Mathlib.Nat.{div-le-self}
-use lib.ListN.{length, getD, take, drop}
+use lib.ListN.{length, take, drop}
 use lib.Dec.{eqb}
 use borrow.Author.Tests.{eq-eqb, ne-eqb}
 use Rattle.words.specs.Rows.{rows, row, part}
-use Rattle.words.specs.Reads.{at}
-use Rattle.words.specs.Groups.{size}
 use Rattle.words.specs.Moves.{moveSize, nameOf}
-use Rattle.text_views.specs.Views.{shown, memberText, singleText, alone, begins, ends}
-
-module _ (t : List ℕ) (i : ℕ) {v : ℕ} (e : v ≡ getD t i 0) where
-  pub at-place : at t (i + 1) ≡ v
-  unfolding at
-  at-place = ap (λ (k : ℕ). getD t k 0) (omega arith) ∙ sym e
-
-  pub member-is : (s : ℕ) → memberText t s (i + 1) ≡ shown (eqb v s) (i + 1)
-  unfolding memberText
-  member-is s = rw at-place
-
-  pub alone-is : (r : ℕ) → r ≡ size t v → eqb r 1 ≡ alone t (i + 1)
-  unfolding alone
-  alone-is r q = rw (at-place, q)
-
-pub single-is : (t : List ℕ) (i : ℕ) {b : Bool} → b ≡ alone t (i + 1) → singleText t (i + 1) ≡ shown b (i + 1)
-unfolding singleText
-single-is t i e = rw (← e)
+use Rattle.text_views.specs.Views.{begins, ends}
 
 -- rows of c numbers, and one of them
 module _ (c : ℕ) (l : List ℕ) where

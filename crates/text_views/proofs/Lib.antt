@@ -1,9 +1,5 @@
-pub mod Counted
 pub mod Cells
 pub mod Shapes
 pub mod Rows
-pub mod Bytes
-pub mod Visible
-pub mod Told
 pub mod Bounds
 pub mod Settled

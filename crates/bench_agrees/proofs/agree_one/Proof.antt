@@ -13,8 +13,8 @@ gap-requires c κs = search needs
 returns : tie.Need-returns
 returns c =
     let u = c .before in
-    let s = u .before .before .before in
-    skip-on (s .args .table .now) (s .args .p) (s .args .i) (s .args .lines .now) (s .args .a .ok) (s .args .a .at) (s .pre .1)
+    let s = u .before .before .before .before in
+    skip-on (s .args .table .now) (s .args .p) (s .args .i) (s .args .lines .now) (s .args .a .ok) (s .args .a .at) (s .pre .3)
     (λ q. c .if1 .taken (u .gap .ensures ∙ q))
 
 copies-requires : tie.Need-copies-requires
@@ -26,8 +26,8 @@ is-line-requires c κs = search needs
 line-size-requires : tie.Need-line-size-requires
 line-size-requires c κs = search needs
 
-add-t11 : tie.Need-add-t11
-add-t11 c = omega (arith, c .line-size .ensures, line-few)
+add-t12 : tie.Need-add-t12
+add-t12 c = omega (arith, c .line-size .ensures, line-few)
 
 returns-2 : tie.Need-returns-2
 returns-2 c =
@@ -36,9 +36,9 @@ returns-2 c =
     let v = u .before in
     let w = v .before in
     let x = w .before in
-    let s = x .before .before .before in
+    let s = x .before .before .before .before in
     rw (c .line-size .ensures)
-    (line-on (s .args .table .now) (s .args .p) (s .args .i) (s .args .lines .now) (s .args .a .ok) (s .args .a .at) (s .pre .1)
+    (line-on (s .args .table .now) (s .args .p) (s .args .i) (s .args .lines .now) (s .args .a .ok) (s .args .a .at) (s .pre .3)
     (sym (x .gap .ensures) ∙ w .if1 .left)
     (rw (← v .copies .ensures) (sym (u .is-line .ensures) ∙ t .if2 .taken)))
 
@@ -48,12 +48,12 @@ returns-3 c =
     let v = u .before in
     let w = v .before in
     let x = w .before in
-    let s = x .before .before .before in
-    line-off (s .args .table .now) (s .args .p) (s .args .i) (s .args .lines .now) (s .args .a .ok) (s .args .a .at) (s .pre .1)
+    let s = x .before .before .before .before in
+    line-off (s .args .table .now) (s .args .p) (s .args .i) (s .args .lines .now) (s .args .a .ok) (s .args .a .at) (s .pre .3)
     (sym (x .gap .ensures) ∙ w .if1 .left)
     (rw (← v .copies .ensures) (sym (u .is-line .ensures) ∙ c .if2 .left))
 
 pub agree-one-spec : {M : Type 1} → statement M
 agree-one-spec =
     tie.close
-    (tie.spec gap-requires returns copies-requires is-line-requires line-size-requires add-t11 returns-2 returns-3)
+    (tie.spec gap-requires returns copies-requires is-line-requires line-size-requires add-t12 returns-2 returns-3)

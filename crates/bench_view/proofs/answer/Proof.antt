@@ -25,18 +25,8 @@ show-requires c κs = search needs
 same-length-2 : tie.Need-same-length-2
 same-length-2 c = search needs
 
-same-length-3 : tie.Need-same-length-3
-same-length-3 c = search needs
-
-same-length-4 : tie.Need-same-length-4
-same-length-4 c = search needs
-
-same-length-5 : tie.Need-same-length-5
-same-length-5 c = search needs
-
 returns-2 : tie.Need-returns-2
-returns-2 c =
-    viewed-whole _ (c .before .before .before .before .before .before .before .before .before .before .before .before .before .before .before .before .before .before .before .before .pre .0 .lines) (omega arith) (omega arith) (omega arith) (c .before .before .before .before .before .before .before .before .show .ensures)
+returns-2 c = viewed-whole (omega arith) (omega arith) (c .before .before .show .ensures)
 
 pub answer-spec : {M : Type 1} → statement M
 answer-spec =
@@ -48,7 +38,4 @@ answer-spec =
     slice-aggregate-show
     show-requires
     same-length-2
-    same-length-3
-    same-length-4
-    same-length-5
     returns-2)

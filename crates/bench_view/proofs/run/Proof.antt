@@ -19,28 +19,8 @@ same-length-2 c = search needs
 same-length-3 : tie.Need-same-length-3
 same-length-3 c = search needs
 
-same-length-4 : tie.Need-same-length-4
-same-length-4 c = search needs
-
-same-length-5 : tie.Need-same-length-5
-same-length-5 c = search needs
-
-same-length-6 : tie.Need-same-length-6
-same-length-6 c = search needs
-
 returns : tie.Need-returns
-returns c = ran (c .before .before .before .before .before .before .before .before .before .before .before .before .before .before .all .ensures .1) (c .flush .ensures)
+returns c = ran (c .before .before .before .before .before .before .before .before .all .ensures .1) (c .flush .ensures)
 
 pub run-spec : {M : Type 1} → statement M
-run-spec =
-    tie.close
-    (tie.spec
-    all-requires
-    flush-requires
-    same-length
-    same-length-2
-    same-length-3
-    same-length-4
-    same-length-5
-    same-length-6
-    returns)
+run-spec = tie.close (tie.spec all-requires flush-requires same-length same-length-2 same-length-3 returns)

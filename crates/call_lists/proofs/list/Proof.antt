@@ -10,25 +10,10 @@ returns c = long-said _ _ _ (c .if1 .taken)
 returns-2 : tie.Need-returns-2
 returns-2 c = mode-said _ _ _ (c .before .if1 .left) (c .if2 .taken)
 
-list-room-requires : tie.Need-list-room-requires
-list-room-requires c κs = search needs
-
-room-requires : tie.Need-room-requires
-room-requires c κs = search needs
-
-clear-requires : tie.Need-clear-requires
-clear-requires c κs = search needs
-
-same-length : tie.Need-same-length
-same-length c = search needs
-
 returns-3 : tie.Need-returns-3
 returns-3 c =
     let l = c .before .before .before .before .if3 .taken in
     rw (c .before .before .clear .ensures) (short-said _ _ _ (c .before .before .before .before .before .before .before .before .before .before .before .before .if1 .left) (c .before .before .before .before .before .before .before .before .before .before .before .if2 .left) _ _ (c .before .before .before .before .before .before .before .before .before .list-room .ensures) (rw (c .before .before .before .before .before .room .ensures) at l))
-
-same-length-2 : tie.Need-same-length-2
-same-length-2 c = search needs
 
 returns-4 : tie.Need-returns-4
 returns-4 c =
@@ -41,10 +26,10 @@ list-spec =
     (tie.spec
     returns
     returns-2
-    list-room-requires
-    room-requires
-    clear-requires
-    same-length
+    (λ c κs. search needs)
+    (λ c κs. search needs)
+    (λ c κs. search needs)
+    (λ c. search needs)
     returns-3
-    same-length-2
+    (λ c. search needs)
     returns-4)

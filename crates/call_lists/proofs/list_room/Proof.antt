@@ -27,15 +27,6 @@ Inv-loop out₀ read mode n a₀ small₀ found₀ count₀ top p₀ k₀ out a 
 abbrev μ-loop : tie.MeasureT-loop
 μ-loop out₀ read mode n a₀ small₀ found₀ count₀ top p₀ k₀ out a small found count p k = top + 1 - p
 
-cast-n : tie.Need-cast-n Inv-loop μ-loop
-cast-n c = search needs
-
-begin-requires : tie.Need-begin-requires Inv-loop μ-loop
-begin-requires c κs = (search needs, search needs, begin-asks .0, begin-asks .1, begin-asks .2)
-
-top-of-requires : tie.Need-top-of-requires Inv-loop μ-loop
-top-of-requires c κs = search needs
-
 loop-holds : tie.Need-loop-holds Inv-loop μ-loop
 loop-holds c =
     let S = c .before .begin .ensures in
@@ -47,9 +38,6 @@ starts-requires c κs =
     let I = c .before .before .before .loop .inv in
     let H = I .0 .held in
     (H .long, H .lists, I .6, I .7, I .0 .low, omega (arith, I .2, c .before .before .loop-test .taken, top-few _ (H .few)))
-
-index-1-lines-at : tie.Need-index-1-lines-at Inv-loop μ-loop
-index-1-lines-at c = search needs
 
 lines-at-requires : tie.Need-lines-at-requires Inv-loop μ-loop
 unfolding row
@@ -86,9 +74,6 @@ loop-again c =
       L .4,
     )
 
-same-length : tie.Need-same-length Inv-loop μ-loop
-same-length c = c .before .loop .inv .1 .same
-
 returns : tie.Need-returns Inv-loop μ-loop
 returns c =
     let I = c .before .loop .inv in
@@ -100,15 +85,15 @@ list-room-spec =
     (tie.spec
     Inv-loop
     μ-loop
-    cast-n
-    begin-requires
-    top-of-requires
+    (λ c. search needs)
+    (λ c κs. (search needs, search needs, begin-asks .0, begin-asks .1, begin-asks .2))
+    (λ c κs. search needs)
     loop-holds
     starts-requires
-    index-1-lines-at
+    (λ c. search needs)
     lines-at-requires
     onward-requires
     loop-less
     loop-again
-    same-length
+    (λ c. c .before .loop .inv .1 .same)
     returns)

@@ -25,12 +25,6 @@ Inv-loop read out₀ n a₀ small₀ end w₀ k₀ out a small w k = Stands read
 abbrev μ-loop : tie.MeasureT-loop
 μ-loop read out₀ n a₀ small₀ end w₀ k₀ out a small w k = end - w
 
-cast-n : tie.Need-cast-n Inv-loop μ-loop
-cast-n c = search needs
-
-begin-requires : tie.Need-begin-requires Inv-loop μ-loop
-begin-requires c κs = (search needs, search needs, begin-asks .0, begin-asks .1, begin-asks .2)
-
 loop-holds : tie.Need-loop-holds Inv-loop μ-loop
 loop-holds c = (c .begin .ensures, logging-begins _ _, refl, refl)
 
@@ -39,26 +33,25 @@ push-all-requires c κs =
     let H = c .before .before .before .loop .inv .0 .held in
     (H .few, H .long, H .least, record { long = H .long .each 3 (omega arith); next = H .links .next }, H .flags-of, H .sound)
 
-same-length : tie.Need-same-length Inv-loop μ-loop
-same-length c = c .before .before .before .before .before .loop .inv .2
-
 returns : tie.Need-returns Inv-loop μ-loop
 returns c =
     let I = c .before .before .before .before .before .loop .inv in
     let Q = c .before .push-all .ensures in
-    logging-stops _ _ _ _ _ _ _ _ (I .0) (I .1) _ (omega (arith, I .3, c .before .before .before .before .loop-test .taken)) (queue-counted _ _ _ (I .0 .held) _ _ _ (Q .0) (Q .1) (Q .2) (Q .3) (Q .4) (Q .5)) (c .if1 .taken)
+    logging-stops _ _ _ _ _ _ _ _ (I .0) (I .1) _ (omega (arith, I .3, c .before .before .before .before .loop-test .taken)) (queue-counted _ _ _ (I .0 .held) _ _ (Q .1) (Q .2) (Q .3)) (c .if1 .taken)
 
 write-moves-requires : tie.Need-write-moves-requires Inv-loop μ-loop
 write-moves-requires c κs =
     let I = c .before .before .before .before .before .before .before .loop .inv in
     let H = I .0 .held in
     let Q = c .before .before .before .push-all .ensures in (
-      queue-few _ _ _ H _ _ _ (Q .0) (Q .1) (Q .2) (Q .3) (Q .4) (Q .5),
-      queue-places _ _ _ H _ _ _ (Q .0) (Q .1) (Q .2) (Q .3) (Q .4) (Q .5),
+      queue-few _ _ _ H _ _ (Q .1) (Q .2) (Q .3),
+      queue-places _ _ _ H _ _ (Q .1) (Q .2) (Q .3),
       omega (
         arith,
-        logging-room _ _ _ _ _ _ _ _ (I .0) (I .1) (omega (arith, I .3, c .before .before .before .before .before .before .loop-test .taken)) (c .before .before .before .before .before .before .before .before .before .before .before .before .before .pre .1) (I .2),
-        ap (λ (v : ℕ). moveSize * v) (queue-counted _ _ _ H _ _ _ (Q .0) (Q .1) (Q .2) (Q .3) (Q .4) (Q .5)),
+        I .2,
+        c .before .before .before .before .before .before .before .before .before .before .before .before .before .pre .1,
+        logging-room _ _ _ _ _ _ _ _ (I .0) (I .1) (omega (arith, I .3, c .before .before .before .before .before .before .loop-test .taken)),
+        ap (λ (v : ℕ). moveSize * v) (queue-counted _ _ _ H _ _ (Q .1) (Q .2) (Q .3)),
       ),
     )
 
@@ -67,14 +60,11 @@ move-on-requires c κs =
     let Q = c .before .before .before .before .before .before .before .before .push-all .ensures in
     held-queued _ _ _ (c .before .before .before .before .before .before .before .before .before .before .before .before .loop .inv .0 .held) _ _ _ (Q .0) (Q .1) (Q .2) (Q .3) (Q .4) (Q .5)
 
-wide-requires : tie.Need-wide-requires Inv-loop μ-loop
-wide-requires c κs = search needs
-
 add-k : tie.Need-add-k Inv-loop μ-loop
 add-k c =
     let I = c .before .before .before .before .before .before .before .before .before .before .before .before .before .before .loop .inv in
     let Q = c .before .before .before .before .before .before .before .before .before .before .push-all .ensures in
-    omega (arith, c .wide .ensures, logging-few _ _ _ _ _ _ _ _ (I .0) (I .1) _ (omega (arith, I .3, c .before .before .before .before .before .before .before .before .before .before .before .before .before .loop-test .taken)) (queue-counted _ _ _ (I .0 .held) _ _ _ (Q .0) (Q .1) (Q .2) (Q .3) (Q .4) (Q .5)))
+    omega (arith, c .wide .ensures, logging-few _ _ _ _ _ _ _ _ (I .0) (I .1) _ (omega (arith, I .3, c .before .before .before .before .before .before .before .before .before .before .before .before .before .loop-test .taken)) (queue-counted _ _ _ (I .0 .held) _ _ (Q .1) (Q .2) (Q .3)))
 
 add-w : tie.Need-add-w Inv-loop μ-loop
 add-w c = omega (arith, c .before .before .before .before .before .before .before .before .before .before .before .before .before .loop-test .taken, c .before .before .before .before .before .before .before .before .before .before .before .before .before .before .loop .inv .3, c .before .before .before .before .before .before .before .before .before .before .before .before .before .before .loop .inv .0 .held .few)
@@ -89,15 +79,12 @@ loop-again c =
     let Q = c .before .before .before .before .before .before .before .before .before .before .push-all .ensures in
     let W = c .before .before .before .before .before .before .write-moves .ensures in
     let A = queued-advanced _ _ _ (S .held) _ _ _ (Q .0) (Q .1) (Q .2) (Q .3) (Q .4) (Q .5) _ _ (c .before .move-on .ensures) in
-    let M = logging-on _ _ _ _ _ _ _ _ S (L .inv .1) _ (omega (arith, L .inv .3, c .before .before .before .before .before .before .before .before .before .before .before .before .before .loop-test .taken)) (A .moves) _ (W ∙ ap (stored _ _) (queue-moves _ _ _ (S .held) _ _ _ (Q .0) (Q .1) (Q .2) (Q .3) (Q .4) (Q .5) (L .w))) in (
+    let M = logging-on _ _ _ _ _ _ _ _ S (L .inv .1) _ (omega (arith, L .inv .3, c .before .before .before .before .before .before .before .before .before .before .before .before .before .loop-test .taken)) (A .moves) _ (W ∙ ap (stored _ _) (queue-moves _ _ _ (S .held) _ _ (Q .1) (Q .2) (Q .3) (L .w))) in (
       rw (add-one (L .w)) (stands-advance _ _ (L .inv .1 .low) _ _ _ _ _ _ S A),
       rw (add-one (L .w), c .wide .ensures) M,
       stored-length _ _ _ _ W ∙ L .inv .2,
       L .inv .3,
     )
-
-same-length-2 : tie.Need-same-length-2 Inv-loop μ-loop
-same-length-2 c = c .before .loop .inv .2
 
 returns-2 : tie.Need-returns-2 Inv-loop μ-loop
 returns-2 c =
@@ -110,18 +97,18 @@ write-log-spec =
     (tie.spec
     Inv-loop
     μ-loop
-    cast-n
-    begin-requires
+    (λ c. search needs)
+    (λ c κs. (search needs, search needs, begin-asks .0, begin-asks .1, begin-asks .2))
     loop-holds
     push-all-requires
-    same-length
+    (λ c. c .before .before .before .before .before .loop .inv .2)
     returns
     write-moves-requires
     move-on-requires
-    wide-requires
+    (λ c κs. search needs)
     add-k
     add-w
     loop-less
     loop-again
-    same-length-2
+    (λ c. c .before .loop .inv .2)
     returns-2)

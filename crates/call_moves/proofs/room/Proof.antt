@@ -15,21 +15,9 @@ returns : tie.Need-returns
 unfolding M
 returns c = let e : c .before .args .n ≡ 0 = omega arith in rw e (omega arith)
 
-move-size-requires : tie.Need-move-size-requires
-move-size-requires c κs = search needs
-
-wide-requires : tie.Need-wide-requires
-wide-requires c κs = search needs
-
-digits-requires : tie.Need-digits-requires
-digits-requires c κs = search needs
-
 product : (c : tie.After-digits) → c .before .wide .result * c .digits .result ≤ 9990
 unfolding M
 product c = rw (c .before .wide .ensures, c .digits .ensures) (room-few _ (omega arith) (c .before .before .before .before .pre))
-
-mul-result : tie.Need-mul-result
-mul-result c = omega (arith, product c)
 
 mul-result-2 : tie.Need-mul-result-2
 mul-result-2 c = let few : c .before .before .move-size .result ≤ widest = rw (c .before .before .move-size .ensures) move-few in omega (arith, mul-le-mul few (product c))
@@ -40,4 +28,4 @@ returns-2 c = rw (c .before .before .move-size .ensures, c .before .wide .ensure
 
 pub room-spec : {M : Type 1} → statement M
 room-spec =
-    tie.close (tie.spec returns move-size-requires wide-requires digits-requires mul-result mul-result-2 returns-2)
+    tie.close (tie.spec returns (λ c κs. search needs) (λ c κs. search needs) (λ c κs. search needs) (λ c. omega (arith, product c)) mul-result-2 returns-2)

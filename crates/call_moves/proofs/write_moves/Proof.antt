@@ -22,30 +22,12 @@ Inv-loop out₀ k a w m size q₀ at₀ out q at =
 abbrev μ-loop : tie.MeasureT-loop
 μ-loop out₀ k a w m size q₀ at₀ out q at = m - q
 
-move-size-requires : tie.Need-move-size-requires Inv-loop μ-loop
-move-size-requires c κs = search needs
-
-mul-at : tie.Need-mul-at Inv-loop μ-loop
-mul-at c = rw (c .move-size .ensures) (omega (arith, c .before .before .pre .2))
-
 loop-holds : tie.Need-loop-holds Inv-loop μ-loop
 loop-holds c = (omega arith, rw (c .move-size .ensures) (omega arith), refl, moves-to-begin _ _ _ _ _, c .move-size .ensures)
-
-add-q : tie.Need-add-q Inv-loop μ-loop
-add-q c = search needs
-
-load-requires : tie.Need-load-requires Inv-loop μ-loop
-load-requires c κs = search needs
 
 -- the position that is loaded has a right neighbour
 loaded : (c : tie.After-load Inv-loop μ-loop) → (1 ≤ c .load .result) × (c .load .result < 1000)
 loaded c = rw (c .load .ensures) (c .before .before .before .before .before .pre .1 _ (omega arith) (omega (arith, c .before .loop-test .taken)))
-
-add-load : tie.Need-add-load Inv-loop μ-loop
-add-load c = omega (arith, loaded c)
-
-load-requires-2 : tie.Need-load-requires-2 Inv-loop μ-loop
-load-requires-2 c κs = (omega arith, omega arith, omega (arith, loaded c))
 
 put-move-requires : tie.Need-put-move-requires Inv-loop μ-loop
 put-move-requires c κs =
@@ -60,9 +42,6 @@ add-at c =
     let h : l .q + 1 ≤ s .args .m = omega (arith, c .before .before .before .before .before .before .loop-test .taken) in
     omega (arith, l .inv .4, l .inv .1, l .inv .2, mul-le-mul-left moveSize h, s .pre .2)
 
-loop-less : tie.Need-loop-less Inv-loop μ-loop
-loop-less c = search needs
-
 loop-again : tie.Need-loop-again Inv-loop μ-loop
 loop-again c =
     let l = c .before .before .before .before .before .before .before .loop in
@@ -73,9 +52,6 @@ loop-again c =
       moves-to-more _ _ _ _ _ _ _ (l .q) _ _ _ (l .inv .3) (l .inv .1) (c .before .before .before .before .before .load .ensures) (c .before .before .before .before .load2 .ensures) e,
       l .inv .4,
     )
-
-same-length : tie.Need-same-length Inv-loop μ-loop
-same-length c = c .before .loop .inv .2
 
 returns : tie.Need-returns Inv-loop μ-loop
 returns c =
@@ -89,16 +65,16 @@ write-moves-spec =
     (tie.spec
     Inv-loop
     μ-loop
-    move-size-requires
-    mul-at
+    (λ c κs. search needs)
+    (λ c. rw (c .move-size .ensures) (omega (arith, c .before .before .pre .2)))
     loop-holds
-    add-q
-    load-requires
-    add-load
-    load-requires-2
+    (λ c. search needs)
+    (λ c κs. search needs)
+    (λ c. omega (arith, loaded c))
+    (λ c κs. (omega arith, omega arith, omega (arith, loaded c)))
     put-move-requires
     add-at
-    loop-less
+    (λ c. search needs)
     loop-again
-    same-length
+    (λ c. c .before .loop .inv .2)
     returns)

@@ -9,12 +9,6 @@ returns : tie.Need-returns
 unfolding leadsIn
 returns c = rw (le-leb (c .before .args .i) (c .before .args .p) (c .if1 .taken))
 
-sub-load : tie.Need-sub-load
-sub-load c = search needs
-
-load-requires : tie.Need-load-requires
-load-requires c κs = search needs
-
 returns-2 : tie.Need-returns-2
 unfolding leadsIn
 returns-2 c =
@@ -22,4 +16,4 @@ returns-2 c =
     rw (c .load .ensures, lt-leb (s .args .i) (s .args .p) (c .before .if1 .left))
 
 pub leads-at-spec : {M : Type 1} → statement M
-leads-at-spec = tie.close (tie.spec returns sub-load load-requires returns-2)
+leads-at-spec = tie.close (tie.spec returns (λ c. search needs) (λ c κs. search needs) returns-2)

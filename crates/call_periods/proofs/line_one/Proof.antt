@@ -11,12 +11,6 @@ use borrow.Author.Needs.{needs}
 use Rattle.call_periods.proofs.line_one.Statement.{statement}
 use Rattle.call_periods.proofs.line_one.Tie as tie
 
-leads-at-requires : tie.Need-leads-at-requires
-leads-at-requires c κs = search needs
-
-wants-requires : tie.Need-wants-requires
-wants-requires c κs = search needs
-
 -- the test is whether it is listed
 tested : (c : tie.After-wants) → wantedIn (c .before .before .before .args .dist .now) (c .before .before .before .args .mode) (c .before .before .before .args .p) (c .before .before .before .args .i) ≡ c .wants .result
 tested c = wanted-tested _ _ _ _ _ _ (c .before .leads-at .ensures) (c .wants .ensures)
@@ -34,18 +28,6 @@ copies-at-requires c κs =
     let w = tested (c .before .before) ∙ not-false _ (c .before .if1 .left) in
     (P .0, P .1, P .2, P .3, E, λ f. counted-follows _ _ _ _ _ (P .5) (P .0) w (sym E ∙ f))
 
-store-requires : tie.Need-store-requires
-store-requires c κs = search needs
-
-add-line-requires : tie.Need-add-line-requires
-add-line-requires c κs = search needs
-
-add-result : tie.Need-add-result
-add-result c = search needs
-
-same-length : tie.Need-same-length
-same-length c = search needs
-
 returns-2 : tie.Need-returns-2
 returns-2 c =
     let P = c .before .before .before .before .before .before .before .before .before .before .before .before .pre in
@@ -60,12 +42,12 @@ pub line-one-spec : {M : Type 1} → statement M
 line-one-spec =
     tie.close
     (tie.spec
-    leads-at-requires
-    wants-requires
+    (λ c κs. search needs)
+    (λ c κs. search needs)
     returns
     copies-at-requires
-    store-requires
-    add-line-requires
-    add-result
-    same-length
+    (λ c κs. search needs)
+    (λ c κs. search needs)
+    (λ c. search needs)
+    (λ c. search needs)
     returns-2)

@@ -16,9 +16,6 @@ Inv-loop out₀ count₀ starts₀ dist mode p prior k₀ i₀ out count starts 
 abbrev μ-loop : tie.MeasureT-loop
 μ-loop out₀ count₀ starts₀ dist mode p prior k₀ i₀ out count starts k i = 1000 - done i
 
-take-least-requires : tie.Need-take-least-requires Inv-loop μ-loop
-take-least-requires c κs = c .before .before .pre .1
-
 loop-holds : tie.Need-loop-holds Inv-loop μ-loop
 loop-holds c =
     let P = c .before .before .before .pre in
@@ -33,9 +30,6 @@ line-one-requires c κs =
     let h : 1 ≤ L .i = omega (arith, c .before .before .loop-test .taken) in
     (P .0, h, T .taken .high, turn-start _ _ _ _ _ _ _ _ _ _ T h, omega (arith, turn-few _ _ _ _ _ _ _ _ _ _ T, P .3), turn-counted _ _ _ _ _ _ _ _ _ _ T h)
 
-take-least-requires-2 : tie.Need-take-least-requires-2 Inv-loop μ-loop
-take-least-requires-2 c κs = c .before .before .before .before .before .before .before .loop .inv .0
-
 loop-less : tie.Need-loop-less Inv-loop μ-loop
 loop-less c =
     let L = c .before .before .before .before .before .before .before .before .loop in
@@ -48,9 +42,6 @@ loop-again c =
     let O = c .before .before .before .before .line-one .ensures in
     let h : 1 ≤ L .i = omega (arith, c .before .before .before .before .before .before .before .loop-test .taken) in
     (E .0, turn-next _ _ _ _ _ _ _ _ _ _ (L .inv .1) _ _ _ _ _ h (O .0) (c .before .before .before .before .line-one .kept .0) (O .1) (O .2) (E .1) (E .2))
-
-same-length : tie.Need-same-length Inv-loop μ-loop
-same-length c = c .before .loop .inv .1 .same
 
 returns : tie.Need-returns Inv-loop μ-loop
 returns c =
@@ -65,11 +56,11 @@ lines-at-spec =
     (tie.spec
     Inv-loop
     μ-loop
-    take-least-requires
+    (λ c κs. c .before .before .pre .1)
     loop-holds
     line-one-requires
-    take-least-requires-2
+    (λ c κs. c .before .before .before .before .before .before .before .loop .inv .0)
     loop-less
     loop-again
-    same-length
+    (λ c. c .before .loop .inv .1 .same)
     returns)

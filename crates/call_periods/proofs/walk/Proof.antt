@@ -24,26 +24,11 @@ more c =
     let L = c .before .before .loop in
     c .before .before .before .pre .0 .inside (L .j) (L .inv .0) (L .inv .1) (start c)
 
-add-j : tie.Need-add-j Inv-loop μ-loop
-add-j c = omega (arith, c .pre .0 .inside (c .args .i) (c .pre .1) (c .pre .2) (c .pre .3))
-
 loop-holds : tie.Need-loop-holds Inv-loop μ-loop
 loop-holds c =
     let N = c .pre .0 in
     let l : c .args .i + c .args .p ≤ 1000 = N .inside (c .args .i) (c .pre .1) (c .pre .2) (c .pre .3) in
     (omega arith, l, omega (arith, N .some), omega (arith, chain-on _ _ N (c .args .i) (c .pre .1) (c .pre .3)))
-
-load-requires : tie.Need-load-requires Inv-loop μ-loop
-load-requires c κs = (c .loop .inv .0, c .loop .inv .1)
-
-add-e : tie.Need-add-e Inv-loop μ-loop
-add-e c = omega arith
-
-add-j-2 : tie.Need-add-j-2 Inv-loop μ-loop
-add-j-2 c = omega (arith, more c)
-
-loop-less : tie.Need-loop-less Inv-loop μ-loop
-loop-less c = omega (arith, more c)
 
 loop-again : tie.Need-loop-again Inv-loop μ-loop
 loop-again c =
@@ -62,11 +47,11 @@ walk-spec =
     (tie.spec
     Inv-loop
     μ-loop
-    add-j
+    (λ c. omega (arith, c .pre .0 .inside (c .args .i) (c .pre .1) (c .pre .2) (c .pre .3)))
     loop-holds
-    load-requires
-    add-e
-    add-j-2
-    loop-less
+    (λ c κs. (c .loop .inv .0, c .loop .inv .1))
+    (λ c. omega arith)
+    (λ c. omega (arith, more c))
+    (λ c. omega (arith, more c))
     loop-again
     returns)

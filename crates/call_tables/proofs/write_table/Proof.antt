@@ -19,12 +19,6 @@ Inv-loop out read w n a₀ small₀ v₀ a small v = (v ≤ w + 1) × Walks read
 abbrev μ-loop : tie.MeasureT-loop
 μ-loop out read w n a₀ small₀ v₀ a small v = w + 1 - v
 
-cast-n : tie.Need-cast-n Inv-loop μ-loop
-cast-n c = search needs
-
-begin-requires : tie.Need-begin-requires Inv-loop μ-loop
-begin-requires c κs = (search needs, search needs, begin-asks .0, begin-asks .1, begin-asks .2)
-
 loop-holds : tie.Need-loop-holds Inv-loop μ-loop
 loop-holds c =
     let P = c .before .before .before .before .before .pre in
@@ -47,18 +41,12 @@ loop-again c =
     let O = c .onward .ensures in
     (O .2, walks-on _ _ _ _ _ _ _ (omega (arith, O .1)) (O .0) (O .3 _ (W .here (omega (arith, c .before .before .before .loop-test .taken)))))
 
-index-1-copy-names : tie.Need-index-1-copy-names Inv-loop μ-loop
-index-1-copy-names c = search needs
-
 copy-names-requires : tie.Need-copy-names-requires Inv-loop μ-loop
 unfolding row
 copy-names-requires c κs =
     let W = c .before .before .before .loop .inv .1 in
     let P = c .before .before .before .before .before .before .before .before .before .pre in
     (P .0, search needs, W .held .long .each 0 (omega arith))
-
-same-length : tie.Need-same-length Inv-loop μ-loop
-same-length c = search needs
 
 returns : tie.Need-returns Inv-loop μ-loop
 unfolding row
@@ -73,13 +61,13 @@ write-table-spec =
     (tie.spec
     Inv-loop
     μ-loop
-    cast-n
-    begin-requires
+    (λ c. search needs)
+    (λ c κs. (search needs, search needs, begin-asks .0, begin-asks .1, begin-asks .2))
     loop-holds
     onward-requires
     loop-less
     loop-again
-    index-1-copy-names
+    (λ c. search needs)
     copy-names-requires
-    same-length
+    (λ c. search needs)
     returns)

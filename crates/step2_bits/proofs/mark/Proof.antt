@@ -1,5 +1,5 @@
 -- `step2_bits::mark` meets its contract: one bit of one word is put in, and that word's bit of the last one. Assumes nothing.
-use Rattle.step2_bits.proofs.Marked.{sound-marked, flags-marked}
+use Rattle.step2_bits.proofs.Places.{put-in}
 use borrow.Author.Needs.{needs}
 use Rattle.step2_bits.proofs.mark.Statement.{statement}
 use Rattle.step2_bits.proofs.mark.Tie as tie
@@ -34,7 +34,7 @@ element-write-set-2 c = search needs
 returns : tie.Need-returns
 returns c =
     let r = c .before .before .pre in
-    (sound-marked _ _ (r .0) (r .1) (r .2), flags-marked _ _ (r .0) (r .1) (r .2))
+    put-in _ (r .0) _ (r .1) (r .2)
 
 pub mark-spec : {M : Type 1} → statement M
 mark-spec =

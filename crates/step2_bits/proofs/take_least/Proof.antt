@@ -5,7 +5,7 @@ use mathlib.Core.Logic.{⊎-elim}
 use native.Mathlib.Omega.{arith}
 use Rattle.slots.proofs.Laws.{some-none}
 use Rattle.step2_bits.specs.Sets.{flags}
-use Rattle.step2_bits.proofs.Taken.{none-first, word-low, word-full, least-high, least-first, taken-kept, taken-lost}
+use Rattle.step2_bits.proofs.Places.{none-first, word-low, word-full, least-high, least-first, taken-kept, taken-lost}
 use borrow.Author.Needs.{needs}
 use Rattle.step2_bits.proofs.take_least.Statement.{statement}
 use Rattle.step2_bits.proofs.take_least.Tie as tie

@@ -2,7 +2,8 @@
 use mathlib.Core.Path.{sym}
 use native.Mathlib.Omega.{arith}
 use borrow.Author.Needs.{needs}
-use Rattle.step3_lists.proofs.Heads.{head-within}
+use Rattle.step1_rows.proofs.Laws.{long-put}
+use Rattle.step3_lists.proofs.Walks.{on-within, head-on}
 use Rattle.step3_lists.proofs.Rows.{redone-in}
 use Rattle.step3_lists.proofs.link.Statement.{statement}
 use Rattle.step3_lists.proofs.link.Tie as tie
@@ -24,9 +25,17 @@ store-head-requires c κs = search needs
 
 store-some-requires : tie.Need-store-some-requires
 store-some-requires c κs =
-    let l = c .before .before .before .before .before .before .before .before .before in
-    let s = l .before .before .pre in
-    (omega arith, rw (l .load .ensures) (head-within (s .1) _ (s .5, omega (arith, s .6))))
+    let head = c .before in
+    let after = head .before .before in
+    let before = after .before .before in
+    let dist = before .before .before in
+    let l = dist .before .before in
+    let s = l .before .before .pre in (
+      rw (head .store4 .ensures, after .store3 .ensures, before .store2 .ensures, dist .store .ensures)
+          (long-put _ _ _ _ (long-put _ _ _ _ (long-put _ _ _ _ (long-put _ _ _ _ (s .0))))),
+      omega arith,
+      rw (l .load .ensures) (on-within (head-on (s .1) _ (s .5, omega (arith, s .6)))),
+    )
 
 returns : tie.Need-returns
 returns c =
@@ -36,8 +45,8 @@ returns c =
     let dist = before .before .before in
     let l = dist .before .before in
     let s = l .before .before .pre in
-    rw (c .store-some .ensures, head .store4 .ensures, after .store3 .ensures, before .store2 .ensures, dist .store .ensures)
-    (redone-in _ (s .0) (s .1) _ (s .2) (s .3) _ _ (s .5) (s .6) (sym (l .load .ensures)) (s .4))
+    redone-in _ (s .0) (s .1) _ (s .2, s .3) _ _ _ (s .5) (s .6) (sym (l .load .ensures)) (s .4)
+    (rw (head .store4 .ensures, after .store3 .ensures, before .store2 .ensures, dist .store .ensures) at (c .store-some .ensures))
 
 pub link-spec : {M : Type 1} → statement M
 link-spec =

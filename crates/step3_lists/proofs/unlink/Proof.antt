@@ -1,8 +1,8 @@
 -- `unlink` meets its contract: the law `redone-out`, once what the loads and the stores ensure is put in. Assumes nothing.
-use mathlib.Core.Path.{sym}
+use mathlib.Core.Path.{refl, sym}
 use native.Mathlib.Omega.{arith}
 use borrow.Author.Needs.{needs}
-use Rattle.step3_lists.proofs.Changed.{out-asks}
+use Rattle.step3_lists.proofs.Walks.{on-within, after-on}
 use Rattle.step3_lists.proofs.Rows.{redone-out}
 use Rattle.step3_lists.proofs.unlink.Statement.{statement}
 use Rattle.step3_lists.proofs.unlink.Tie as tie
@@ -21,13 +21,13 @@ lead-requires c κs =
     let l = c .before .before .before in
     let s = l .before .before .before .before .pre in
     rw (l .before .before .load .ensures, l .load2 .ensures)
-    (s .4, omega (arith, s .1 .low _ (s .2, s .3)), out-asks (s .1) _ (s .2, s .3) (s .4) .0)
+    (s .0, s .4, omega (arith, s .1 .low _ (s .2, s .3)), on-within (s .1 .chains .back _ (s .2, s .3) (s .4) .link))
 
 store-some-requires : tie.Need-store-some-requires
 store-some-requires c κs =
     let l = c .before .before .before in
     let s = l .before .before .before .before .before .before .pre in
-    (omega arith, rw (l .load3 .ensures) (out-asks (s .1) _ (s .2, s .3) (s .4) .1))
+    (c .before .lead .ensures .long, omega arith, rw (l .load3 .ensures) (on-within (after-on (s .1) _ (s .4, omega (arith, s .1 .low _ (s .2, s .3))) _ (λ y. (s .3, refl)) (s .2))))
 
 store-requires : tie.Need-store-requires
 store-requires c κs = search needs
@@ -40,9 +40,10 @@ returns c =
     let before = after .before .before in
     let dist = before .before .before in
     let s = dist .before .before .pre in
-    rw (c .store .ensures, some .store-some .ensures, lead .lead .ensures)
-    (redone-out _ (s .0) (s .1) _ (s .2) (s .3) _ _ _
-    (sym (dist .load .ensures)) (sym (before .load2 .ensures)) (sym (after .load3 .ensures)) (rw (dist .load .ensures) (s .4)))
+    rw (c .store .ensures)
+    (redone-out _ (s .0) (s .1) _ (s .2, s .3) _ _ _ _ _
+    (sym (dist .load .ensures)) (sym (before .load2 .ensures)) (sym (after .load3 .ensures)) (rw (dist .load .ensures) (s .4))
+    (lead .lead .ensures) (some .store-some .ensures))
 
 pub unlink-spec : {M : Type 1} → statement M
 unlink-spec =

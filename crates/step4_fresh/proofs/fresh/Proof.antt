@@ -3,8 +3,7 @@ use Prim.Native.Nat.{_-_, _≤_}
 use mathlib.Core.Path.{_≡_, sym, _∙_}
 use native.Mathlib.Omega.{arith}
 use borrow.Author.Needs.{needs}
-use Rattle.step4_fresh.proofs.Linking.{byte-is}
-use Rattle.step4_fresh.proofs.Begun.{Begun, begun-start, join-asks, begun-next, begun-first, begun-end}
+use Rattle.step4_fresh.proofs.Begun.{Begun, begun-start, byte-is, join-asks, begun-next, begun-first, begun-end}
 use Rattle.step4_fresh.proofs.fresh.Statement.{statement}
 use Rattle.step4_fresh.proofs.fresh.Tie as tie
 
@@ -17,31 +16,7 @@ abbrev μ-loop : tie.MeasureT-loop
 loop-holds : tie.Need-loop-holds Inv-loop μ-loop
 loop-holds c =
     let s = c .before .pre in
-    (omega arith, begun-start _ (s .2) _ _ (omega (arith, s .0, s .1)) (s .3) (s .4))
-
-wide-requires : tie.Need-wide-requires Inv-loop μ-loop
-wide-requires c κs = search needs
-
-add-i : tie.Need-add-i Inv-loop μ-loop
-add-i c = omega arith
-
-shared-slice-read-letter : tie.Need-shared-slice-read-letter Inv-loop μ-loop
-shared-slice-read-letter c = omega arith
-
-letter-requires : tie.Need-letter-requires Inv-loop μ-loop
-letter-requires c κs = search needs
-
-mul-l : tie.Need-mul-l Inv-loop μ-loop
-mul-l c = search needs
-
-array-read-l : tie.Need-array-read-l Inv-loop μ-loop
-array-read-l c = search needs
-
-mul-seen : tie.Need-mul-seen Inv-loop μ-loop
-mul-seen c = search needs
-
-array-write-seen : tie.Need-array-write-seen Inv-loop μ-loop
-array-write-seen c = search needs
+    (omega arith, begun-start _ (s .2) _ _ (s .3) (s .4))
 
 next-letter-requires : tie.Need-next-letter-requires Inv-loop μ-loop
 next-letter-requires c κs =
@@ -50,23 +25,12 @@ next-letter-requires c κs =
     let w = b .before .before .wide in
     join-asks _ _ _ _ (l .i) _ (byte-is _ _ _ (w .ensures) ∙ sym (b .letter .ensures .0)) (l .inv .1) (omega arith) (omega arith) (omega (arith, c .before .if1 .taken))
 
-loop-less-next : tie.Need-loop-less Inv-loop μ-loop
-loop-less-next c = omega arith
-
 loop-again-next : tie.Need-loop-again Inv-loop μ-loop
 loop-again-next c =
     let b = c .before .before .before in
     let l = b .before .before .before .before .loop in
     let w = b .before .before .wide in
     (omega arith, begun-next _ _ _ _ (l .i) _ (byte-is _ _ _ (w .ensures) ∙ sym (b .letter .ensures .0)) (l .inv .1) (omega arith) (omega arith) (omega (arith, c .before .before .if1 .taken)) _ (b .letter .ensures .1) (c .next-letter .ensures))
-
-first-letter-requires : tie.Need-first-letter-requires Inv-loop μ-loop
-first-letter-requires c κs =
-    let l = c .before .before .before .before .before .before .before .loop in
-    (omega arith, omega arith, l .inv .1 .sound)
-
-loop-less-first : tie.Need-loop-less-2 Inv-loop μ-loop
-loop-less-first c = omega arith
 
 loop-again-first : tie.Need-loop-again-2 Inv-loop μ-loop
 loop-again-first c =
@@ -92,18 +56,18 @@ fresh-spec =
     Inv-loop
     μ-loop
     loop-holds
-    wide-requires
-    add-i
-    shared-slice-read-letter
-    letter-requires
-    mul-l
-    array-read-l
-    mul-seen
-    array-write-seen
+    (λ c κs. search needs)
+    (λ c. omega arith)
+    (λ c. omega arith)
+    (λ c κs. search needs)
+    (λ c. search needs)
+    (λ c. search needs)
+    (λ c. search needs)
+    (λ c. search needs)
     next-letter-requires
-    loop-less-next
+    (λ c. omega arith)
     loop-again-next
-    first-letter-requires
-    loop-less-first
+    (λ c κs. (omega arith, omega arith, c .before .before .before .before .before .before .before .loop .inv .1 .sound))
+    (λ c. omega arith)
     loop-again-first
     returns)

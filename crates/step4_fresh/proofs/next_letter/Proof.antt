@@ -7,30 +7,12 @@ use Rattle.step4_fresh.proofs.Joining.{stored-long, stored-lists, store
 use Rattle.step4_fresh.proofs.next_letter.Statement.{statement}
 use Rattle.step4_fresh.proofs.next_letter.Tie as tie
 
-load-name-requires : tie.Need-load-requires
-load-name-requires c κs = search needs
-
-load-size-requires : tie.Need-load-requires-2
-load-size-requires c κs = search needs
-
-store-name-requires : tie.Need-store-requires
-store-name-requires c κs = search needs
-
-store-prev-requires : tie.Need-store-requires-2
-store-prev-requires c κs = search needs
-
 add-size : tie.Need-add-store
 add-size c =
     let z = c .before .before .before .before .before in
     let s = z .before .before in
     let few : z .load2 .result < 1000 = rw (z .load2 .ensures, s .load .ensures) (s .before .before .pre .7) in
     search needs
-
-store-size-requires : tie.Need-store-requires-3
-store-size-requires c κs = search needs
-
-sub-link : tie.Need-sub-link
-sub-link c = search needs
 
 link-requires : tie.Need-link-requires
 link-requires c κs =
@@ -56,19 +38,20 @@ returns c =
     let z = name .before .before in
     let s = z .before .before in
     let p = s .before .before .pre in
-    joined _ (p .0) _ _ _ _ _ (s .load .ensures) (ap (λ (v : ℕ). v + 1) (z .load2 .ensures))
-    (rw (size .store3 .ensures, prev .store2 .ensures, name .store .ensures) at (c .link .ensures))
+    rw (← (s .load .ensures))
+    (joined _ (p .0) _ _ _ _ _ (ap (λ (v : ℕ). v + 1) (z .load2 .ensures)) (p .2)
+    (rw (size .store3 .ensures, prev .store2 .ensures, name .store .ensures) at (c .link .ensures)))
 
 pub next-letter-spec : {M : Type 1} → statement M
 next-letter-spec =
     tie.close
     (tie.spec
-    load-name-requires
-    load-size-requires
-    store-name-requires
-    store-prev-requires
+    (λ c κs. search needs)
+    (λ c κs. search needs)
+    (λ c κs. search needs)
+    (λ c κs. search needs)
     add-size
-    store-size-requires
-    sub-link
+    (λ c κs. search needs)
+    (λ c. search needs)
     link-requires
     returns)

@@ -33,9 +33,6 @@ names c = view-length (c .args .n) (row (c .args .a .now) NAME) (omega (arith, c
 grouped : (c : tie.Start Inv-loop μ-loop) → Grouped (view (c .args .n) (row (c .args .a .now) NAME)) (c .args .a .now)
 grouped c = record { long = c .pre .1; few = omega (arith, names c, c .pre .0); least = c .pre .2; gaps = c .pre .3 }
 
-take-least-requires : tie.Need-take-least-requires Inv-loop μ-loop
-take-least-requires c κs = c .before .pre .5
-
 loop-holds : tie.Need-loop-holds Inv-loop μ-loop
 loop-holds c = (c .take-least .ensures .0, λ f l F e. ahead-start _ f _ _ _ (c .before .before .pre .1) l F e)
 
@@ -44,9 +41,6 @@ ahead : (c : tie.At-loop Inv-loop μ-loop)
     → let s = c .before .before .before in
     Ahead (view (s .args .n) (row (s .args .a .now) NAME)) (flags (s .args .small .now)) (s .args .a .now) (c .loop .a) (flags (c .loop .small)) (c .loop .k) (c .loop .s)
 ahead c = let f = c .before .take-least .ensures in c .loop .inv .1 _ (c .before .before .before .pre .4 .long) (f .1) (f .2)
-
-wide-requires : tie.Need-wide-requires Inv-loop μ-loop
-wide-requires c κs = search needs
 
 -- the group that is taken next
 next : (c : tie.After-wide Inv-loop μ-loop)
@@ -57,12 +51,6 @@ next c =
     let l = c .before .before .before in
     let s = l .before .before .before in
     rw (c .wide .ensures) (ahead-group _ _ _ _ _ _ _ (ahead l) (omega (arith, c .before .before .loop-test .taken)) (grouped s) (s .pre .4))
-
-push-group-requires : tie.Need-push-group-requires Inv-loop μ-loop
-push-group-requires c κs = (_, next c)
-
-take-least-requires-2 : tie.Need-take-least-requires-2 Inv-loop μ-loop
-take-least-requires-2 c κs = c .before .before .before .before .before .loop .inv .0
 
 -- what it gave
 pushed : (c : tie.After-push-group Inv-loop μ-loop)
@@ -101,11 +89,11 @@ push-all-spec =
     (tie.spec
     Inv-loop
     μ-loop
-    take-least-requires
+    (λ c κs. c .before .pre .5)
     loop-holds
-    wide-requires
-    push-group-requires
-    take-least-requires-2
+    (λ c κs. search needs)
+    (λ c κs. (_, next c))
+    (λ c κs. c .before .before .before .before .before .loop .inv .0)
     loop-less
     loop-again
     cast-result

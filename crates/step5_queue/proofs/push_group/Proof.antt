@@ -21,11 +21,6 @@ push-left-requires c κs =
     let p = c .before .pre .1 in
     (p .all .long, omega (arith, p .high, p .all .few), left-room _ (c .before .args .s) _ _ p)
 
-load-wide-requires : tie.Need-load-wide-requires Inv-loop μ-loop
-load-wide-requires c κs =
-    let p = c .before .before .before .pre .1 in
-    (omega arith, p .low, omega (arith, p .high, p .all .few))
-
 loop-holds : tie.Need-loop-holds Inv-loop μ-loop
 loop-holds c t G = walked-start _ _ _ _ _ _ _ G (c .before .before .push-left .ensures) (c .load-wide .ensures)
 
@@ -36,31 +31,6 @@ inside c =
     let s = l .before .before .before .before .before in
     let W = l .loop .inv (s .pre .0) (grown-group _ _ _ _ _ (l .before .before .before .push-left .ensures) _ _ _ (s .pre .1)) in
     (omega (arith, walked-inside _ _ _ _ _ _ _ _ W, s .pre .1 .all .few), walked-room _ _ _ _ _ _ _ _ W (c .loop-test .taken))
-
-add-j : tie.Need-add-j Inv-loop μ-loop
-add-j c = omega (arith, inside c .0)
-
-add-k : tie.Need-add-k Inv-loop μ-loop
-add-k c = omega (arith, inside c .1)
-
-sub-store-wide : tie.Need-sub-store-wide Inv-loop μ-loop
-sub-store-wide c = omega (arith, c .before .loop-test .taken)
-
-cast-store-wide : tie.Need-cast-store-wide Inv-loop μ-loop
-cast-store-wide c = omega (arith, inside (c .before) .0)
-
-store-wide-requires : tie.Need-store-wide-requires Inv-loop μ-loop
-store-wide-requires c κs = (omega arith, omega arith, omega (arith, inside (c .before) .1))
-
-load-wide-requires-2 : tie.Need-load-wide-requires-2 Inv-loop μ-loop
-load-wide-requires-2 c κs =
-    let l = c .before .before .before in
-    (omega arith, omega (arith, l .loop-test .taken), inside l .0)
-
-loop-less : tie.Need-loop-less Inv-loop μ-loop
-loop-less c =
-    let l = c .before .before .before .before in
-    omega (arith, l .loop-test .taken, inside l .0)
 
 loop-again : tie.Need-loop-again Inv-loop μ-loop
 loop-again c t G =
@@ -81,14 +51,14 @@ push-group-spec =
     Inv-loop
     μ-loop
     push-left-requires
-    load-wide-requires
+    (λ c κs. let p = c .before .before .before .pre .1 in (omega arith, p .low, omega (arith, p .high, p .all .few)))
     loop-holds
-    add-j
-    add-k
-    sub-store-wide
-    cast-store-wide
-    store-wide-requires
-    load-wide-requires-2
-    loop-less
+    (λ c. omega (arith, inside c .0))
+    (λ c. omega (arith, inside c .1))
+    (λ c. omega (arith, c .before .loop-test .taken))
+    (λ c. omega (arith, inside (c .before) .0))
+    (λ c κs. (omega arith, omega arith, omega (arith, inside (c .before) .1)))
+    (λ c κs. let l = c .before .before .before in (omega arith, omega (arith, l .loop-test .taken), inside l .0))
+    (λ c. let l = c .before .before .before .before in omega (arith, l .loop-test .taken, inside l .0))
     loop-again
     returns)

@@ -10,20 +10,8 @@ use Rattle.step5_queue.proofs.Walks.{left-some, left-none}
 use Rattle.step5_queue.proofs.push_left.Statement.{statement}
 use Rattle.step5_queue.proofs.push_left.Tie as tie
 
-add-store-wide : tie.Need-add-store-wide
-add-store-wide c = search needs
-
-sub-store-wide : tie.Need-sub-store-wide
-sub-store-wide c = search needs
-
-cast-store-wide : tie.Need-cast-store-wide
-cast-store-wide c = search needs
-
 store-wide-requires : tie.Need-store-wide-requires
 store-wide-requires c κs = (omega arith, omega arith, omega (arith, ap length (left-some (c .before .before .args .j) (c .before .if1 .taken))))
-
-add-result : tie.Need-add-result
-add-result c = search needs
 
 returns : tie.Need-returns
 returns c =
@@ -38,4 +26,4 @@ returns-2 c = rw (left-none (c .before .args .j) (c .if1 .left)) (grown-none _ _
 pub push-left-spec : {M : Type 1} → statement M
 push-left-spec =
     tie.close
-    (tie.spec add-store-wide sub-store-wide cast-store-wide store-wide-requires add-result returns returns-2)
+    (tie.spec (λ c. search needs) (λ c. search needs) (λ c. search needs) store-wide-requires (λ c. search needs) returns returns-2)

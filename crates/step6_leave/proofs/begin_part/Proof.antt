@@ -5,18 +5,6 @@ use Rattle.step6_leave.specs.Gone.{begunAt}
 use Rattle.step6_leave.proofs.begin_part.Statement.{statement}
 use Rattle.step6_leave.proofs.begin_part.Tie as tie
 
-store-requires : tie.Need-store-requires
-store-requires c κs = search needs
-
-store-requires-2 : tie.Need-store-requires-2
-store-requires-2 c κs = search needs
-
-store-requires-3 : tie.Need-store-requires-3
-store-requires-3 c κs = search needs
-
-store-requires-4 : tie.Need-store-requires-4
-store-requires-4 c κs = search needs
-
 returns : tie.Need-returns
 unfolding begunAt
 returns c =
@@ -26,5 +14,4 @@ returns c =
     rw (c .store4 .ensures, many .store3 .ensures, part .store2 .ensures, que .store .ensures) refl
 
 pub begin-part-spec : {M : Type 1} → statement M
-begin-part-spec =
-    tie.close (tie.spec store-requires store-requires-2 store-requires-3 store-requires-4 returns)
+begin-part-spec = tie.close (tie.spec (λ c κs. search needs) (λ c κs. search needs) (λ c κs. search needs) (λ c κs. search needs) returns)

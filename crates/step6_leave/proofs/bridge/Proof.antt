@@ -1,19 +1,10 @@
 -- `bridge` meets its contract: two changes of one place are the last of them. Assumes nothing.
 use native.Mathlib.Omega.{arith}
 use borrow.Author.Needs.{needs}
-use Rattle.step6_leave.proofs.Stores.{joined-some}
-use Rattle.step6_leave.proofs.Gone.{redone-again, redone-last, redone-here}
+use Rattle.step6_leave.proofs.Stores.{joined-some, joined-none}
+use Rattle.step6_leave.proofs.Gone.{redone-again, redone-here}
 use Rattle.step6_leave.proofs.bridge.Statement.{statement}
 use Rattle.step6_leave.proofs.bridge.Tie as tie
-
-load-requires : tie.Need-load-requires
-load-requires c κs = search needs
-
-unlink-requires : tie.Need-unlink-requires
-unlink-requires c κs = search needs
-
-add-link : tie.Need-add-link
-add-link c = search needs
 
 link-requires : tie.Need-link-requires
 link-requires c κs =
@@ -31,8 +22,7 @@ returns c =
     rw (joined-some _ _ (c .before .before .if1 .taken), ← l .load .ensures) (redone-again _ _ _ _ _ _ (u .unlink .ensures) (c .link .ensures))
 
 returns-2 : tie.Need-returns-2
-returns-2 c = redone-last _ _ _ _ _ (omega (arith, c .if1 .left)) (c .before .unlink .ensures)
+returns-2 c = rw (joined-none _ _ (c .if1 .left)) (c .before .unlink .ensures)
 
 pub bridge-spec : {M : Type 1} → statement M
-bridge-spec =
-    tie.close (tie.spec load-requires unlink-requires add-link link-requires returns returns-2)
+bridge-spec = tie.close (tie.spec (λ c κs. search needs) (λ c κs. search needs) (λ c. search needs) link-requires returns returns-2)

@@ -12,12 +12,6 @@ bridge-requires c κs =
     let A = s .0 in
     (A .long, A .lists, h, omega (arith, s .1, A .back, A .ahead), rw (s .1) (A .some (rw (s .1) at h)), rw (s .1, s .2) (A .over (rw (s .1) at h)))
 
-next-requires : tie.Need-next-requires
-next-requires c κs = search needs
-
-store-requires : tie.Need-store-requires
-store-requires c κs = search needs
-
 returns : tie.Need-returns
 returns c = closed-some _ _ _ _ _ _ (c .before .before .if1 .taken) (c .bridge .ensures)
 
@@ -28,4 +22,4 @@ returns-2 c =
     rw (c .store .ensures, c .before .next .ensures) (closed-none _ _ _ _ _ (s .0 .long) (s .0 .lists) (omega (arith, f .if1 .left)))
 
 pub close-spec : {M : Type 1} → statement M
-close-spec = tie.close (tie.spec bridge-requires next-requires store-requires returns returns-2)
+close-spec = tie.close (tie.spec bridge-requires (λ c κs. search needs) (λ c κs. search needs) returns returns-2)

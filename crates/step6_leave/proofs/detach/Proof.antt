@@ -5,15 +5,6 @@ use Rattle.step6_leave.proofs.Gone.{detached-some, detached-none}
 use Rattle.step6_leave.proofs.detach.Statement.{statement}
 use Rattle.step6_leave.proofs.detach.Tie as tie
 
-unlink-requires : tie.Need-unlink-requires
-unlink-requires c κs = search needs
-
-add-store : tie.Need-add-store
-add-store c = search needs
-
-store-requires : tie.Need-store-requires
-store-requires c κs = search needs
-
 returns : tie.Need-returns
 returns c =
     let u = c .before .before in
@@ -25,4 +16,4 @@ returns-2 c =
     detached-none _ _ _ _ (s .0) (s .1) (s .4) (omega (arith, c .if1 .left))
 
 pub detach-spec : {M : Type 1} → statement M
-detach-spec = tie.close (tie.spec unlink-requires add-store store-requires returns returns-2)
+detach-spec = tie.close (tie.spec (λ c κs. search needs) (λ c. search needs) (λ c κs. search needs) returns returns-2)

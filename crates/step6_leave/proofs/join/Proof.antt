@@ -1,16 +1,13 @@
 -- `join` meets its contract: its stores are the definition, and `link` does the rest. Assumes nothing.
+use mathlib.Core.Path.{refl}
 use native.Mathlib.Omega.{arith}
 use borrow.Author.Needs.{needs}
+use Rattle.step1_rows.specs.Rows.{PREV, DIST, MANY}
+use Rattle.step1_rows.proofs.Laws.{row-other, long-put}
 use Rattle.step6_leave.specs.Gone.{countedAt}
-use Rattle.step6_leave.proofs.Gone.{counted-long, counted-lists, counted-last}
+use Rattle.step6_leave.proofs.Gone.{listed-put}
 use Rattle.step6_leave.proofs.join.Statement.{statement}
 use Rattle.step6_leave.proofs.join.Tie as tie
-
-load-requires : tie.Need-load-requires
-load-requires c κs = search needs
-
-load-requires-2 : tie.Need-load-requires-2
-load-requires-2 c κs = search needs
 
 add-store : tie.Need-add-store
 add-store c =
@@ -18,23 +15,20 @@ add-store c =
     let m = rw (← l .load .ensures) at (l .before .before .pre .many) in
     omega (arith, c .before .load2 .ensures, m)
 
-store-requires : tie.Need-store-requires
-store-requires c κs = search needs
-
-store-requires-2 : tie.Need-store-requires-2
-store-requires-2 c κs = search needs
-
-sub-link : tie.Need-sub-link
-sub-link c = search needs
-
 link-requires : tie.Need-link-requires
-unfolding countedAt
 link-requires c κs =
     let many = c .before .before .before in
     let l = many .before .before in
     let J = l .before .before .before .before .pre in
-    rw (c .before .store2 .ensures, many .store .ensures, l .load2 .ensures, l .before .before .load .ensures)
-    (counted-long _ _ _ _ J, counted-lists _ _ _ _ J, J .low, omega (arith, J .behind, J .high), counted-last _ _ _ _ J, omega (arith, J .behind), omega (arith, J .low, J .behind, J .high))
+    rw (c .before .store2 .ensures, many .store .ensures) (
+      long-put _ _ _ _ (long-put _ _ _ _ (J .long)),
+      listed-put _ _ _ _ refl refl refl refl (listed-put _ _ _ _ refl refl refl refl (J .lists)),
+      J .low,
+      omega (arith, J .behind, J .high),
+      rw (row-other _ PREV _ _ DIST refl, row-other _ MANY _ _ DIST refl) (J .last),
+      omega (arith, J .behind),
+      omega (arith, J .low, J .behind, J .high),
+    )
 
 returns : tie.Need-returns
 unfolding countedAt
@@ -45,14 +39,4 @@ returns c =
     rw (prev .store2 .ensures, many .store .ensures, l .load2 .ensures, l .before .before .load .ensures) at (c .link .ensures)
 
 pub join-spec : {M : Type 1} → statement M
-join-spec =
-    tie.close
-    (tie.spec
-    load-requires
-    load-requires-2
-    add-store
-    store-requires
-    store-requires-2
-    sub-link
-    link-requires
-    returns)
+join-spec = tie.close (tie.spec (λ c κs. search needs) (λ c κs. search needs) add-store (λ c κs. search needs) (λ c κs. search needs) (λ c. search needs) link-requires returns)

@@ -4,15 +4,6 @@ use Rattle.step6_leave.proofs.Gone.{closed-dist, gone}
 use Rattle.step6_leave.proofs.leave.Statement.{statement}
 use Rattle.step6_leave.proofs.leave.Tie as tie
 
-load-requires : tie.Need-load-requires
-load-requires c κs = search needs
-
-load-requires-2 : tie.Need-load-requires-2
-load-requires-2 c κs = search needs
-
-close-requires : tie.Need-close-requires
-close-requires c κs = search needs
-
 detach-requires : tie.Need-detach-requires
 detach-requires c κs =
     let o = c .before in
@@ -30,5 +21,4 @@ returns c =
     gone _ _ _ _ _ _ (p .before .before .pre) (p .load .ensures) (d .load2 .ensures) (o .close .ensures) _ (c .detach .ensures)
 
 pub leave-spec : {M : Type 1} → statement M
-leave-spec =
-    tie.close (tie.spec load-requires load-requires-2 close-requires detach-requires returns)
+leave-spec = tie.close (tie.spec (λ c κs. search needs) (λ c κs. search needs) (λ c κs. search needs) detach-requires returns)

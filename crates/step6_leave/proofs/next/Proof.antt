@@ -7,13 +7,10 @@ use Rattle.step6_leave.proofs.next.Statement.{statement}
 use Rattle.step6_leave.proofs.next.Tie as tie
 
 returns : tie.Need-returns
-returns c = sym (joined-none _ _ (c .if1 .taken))
-
-add-result : tie.Need-add-result
-add-result c = search needs
+returns c = sym (joined-none _ _ (omega (arith, c .if1 .taken)))
 
 returns-2 : tie.Need-returns-2
 returns-2 c = sym (joined-some _ _ (omega (arith, c .if1 .left)))
 
 pub next-spec : {M : Type 1} → statement M
-next-spec = tie.close (tie.spec returns add-result returns-2)
+next-spec = tie.close (tie.spec returns (λ c. search needs) returns-2)

@@ -5,15 +5,6 @@ use Rattle.step6_leave.proofs.Gone.{leavable-put}
 use Rattle.step6_leave.proofs.take_out.Statement.{statement}
 use Rattle.step6_leave.proofs.take_out.Tie as tie
 
-store-requires : tie.Need-store-requires
-store-requires c κs = search needs
-
-sub-store : tie.Need-sub-store
-sub-store c = search needs
-
-store-requires-2 : tie.Need-store-requires-2
-store-requires-2 c κs = search needs
-
 leave-requires : tie.Need-leave-requires
 leave-requires c κs =
     let size = c .before in
@@ -29,5 +20,4 @@ returns c =
     rw (size .store2 .ensures, tail .store .ensures) at (c .leave .ensures)
 
 pub take-out-spec : {M : Type 1} → statement M
-take-out-spec =
-    tie.close (tie.spec store-requires sub-store store-requires-2 leave-requires returns)
+take-out-spec = tie.close (tie.spec (λ c κs. search needs) (λ c. search needs) (λ c κs. search needs) leave-requires returns)

@@ -45,16 +45,7 @@ returns c n m q o T =
     let touched = rest .before .before in
     let s = touched .before .before .before .before .pre in
     rw (c .begin-part .ensures)
-    (turn-first T (s .1) (s .2) (rw (s .3) at (s .4)) _ _ (s .3) (rw (rest .store2 .ensures, touched .store .ensures) at (out .take-out .ensures)))
+    (turn-first T (s .1) (s .2) (rw (s .3) at (s .4)) _ (s .3) (rw (rest .store2 .ensures, touched .store .ensures) at (out .take-out .ensures)))
 
 pub first-move-spec : {M : Type 1} → statement M
-first-move-spec =
-    tie.close
-    (tie.spec
-    add-g
-    add-h
-    store-requires
-    store-requires-2
-    take-out-requires
-    begin-part-requires
-    returns)
+first-move-spec = tie.close (tie.spec add-g add-h store-requires store-requires-2 take-out-requires begin-part-requires returns)

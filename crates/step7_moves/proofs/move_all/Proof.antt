@@ -42,15 +42,4 @@ returns : tie.Need-returns Inv-loop μ-loop
 returns c = moving-end (c .before .before .pre) (c .loop-test .left) (c .before .loop .inv)
 
 pub move-all-spec : {M : Type 1} → statement M
-move-all-spec =
-    tie.close
-    (tie.spec
-    Inv-loop
-    μ-loop
-    loop-holds
-    add-q
-    load-requires
-    move-one-requires
-    loop-less
-    loop-again
-    returns)
+move-all-spec = tie.close (tie.spec Inv-loop μ-loop loop-holds add-q load-requires move-one-requires loop-less loop-again returns)

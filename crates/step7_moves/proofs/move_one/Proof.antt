@@ -20,18 +20,6 @@ load-requires-3 c κs =
     let k = turn-named (name .before .before .pre .4) (name .load .ensures) in
     (omega arith, k .0, k .1)
 
-next-move-requires : tie.Need-next-move-requires
-next-move-requires c κs = search needs
-
-returns : tie.Need-returns
-returns c = search needs
-
-first-move-requires : tie.Need-first-move-requires
-first-move-requires c κs = search needs
-
-returns-2 : tie.Need-returns-2
-returns-2 c = search needs
-
 returns-3 : tie.Need-returns-3
 returns-3 c n m q o T =
     let size = c .before .before in
@@ -40,14 +28,4 @@ returns-3 c n m q o T =
     turn-skip T (name .load .ensures) (omega (arith, tail .load2 .ensures, c .before .if1 .left)) (omega (arith, size .load3 .ensures, c .if2 .left))
 
 pub move-one-spec : {M : Type 1} → statement M
-move-one-spec =
-    tie.close
-    (tie.spec
-    load-requires
-    load-requires-2
-    load-requires-3
-    next-move-requires
-    returns
-    first-move-requires
-    returns-2
-    returns-3)
+move-one-spec = tie.close (tie.spec load-requires load-requires-2 load-requires-3 (λ c κs. search needs) (λ c. search needs) (λ c κs. search needs) (λ c. search needs) returns-3)

@@ -29,7 +29,7 @@ join-requires c κs =
     let left = right .before .before in
     let out = left .before .before in
     let s = out .before .before .pre in
-    turn-asks (s .0 .4) (s .1) (rw (s .2) at (s .3)) _ _ _ (s .2) (s .4) (out .take-out .ensures) (sym (left .load .ensures) ∙ c .before .if1 .taken ∙ right .load2 .ensures)
+    turn-asks (s .0 .4) (s .1) (rw (s .2) at (s .3)) _ _ (s .2) (s .4) (out .take-out .ensures) (sym (left .load .ensures) ∙ c .before .if1 .taken ∙ right .load2 .ensures)
 
 returns : tie.Need-returns
 returns c n m q o T =
@@ -37,8 +37,8 @@ returns c n m q o T =
     let left = right .before .before in
     let out = left .before .before in
     let s = out .before .before .pre in
-    turn-join T (s .1) (rw (s .2) at (s .3)) _ _ _ (s .2) (s .4) (out .take-out .ensures)
-    (sym (left .load .ensures) ∙ c .before .before .if1 .taken ∙ right .load2 .ensures) _ (c .join .ensures)
+    turn-join T (s .1) (rw (s .2) at (s .3)) _ _ (s .2) (s .4) (out .take-out .ensures)
+    (sym (left .load .ensures) ∙ c .before .before .if1 .taken ∙ right .load2 .ensures) (c .join .ensures)
 
 add-h : tie.Need-add-h
 add-h c = omega (arith, turn-room (c .before .before .before .before .before .before .before .before .pre .0 .4) .0)
@@ -59,20 +59,8 @@ returns-2 c n m q o T =
     let out = left .before .before in
     let s = out .before .before .pre in
     rw (c .begin-part .ensures)
-    (turn-begin T (s .1) (rw (s .2) at (s .3)) _ _ _ (s .2) (s .4) (out .take-out .ensures)
+    (turn-begin T (s .1) (rw (s .2) at (s .3)) _ _ (s .2) (s .4) (out .take-out .ensures)
     (λ e. other .if1 .left (left .load .ensures ∙ e ∙ sym (right .load2 .ensures))))
 
 pub next-move-spec : {M : Type 1} → statement M
-next-move-spec =
-    tie.close
-    (tie.spec
-    take-out-requires
-    add-load
-    load-requires
-    add-load-2
-    load-requires-2
-    join-requires
-    returns
-    add-h
-    begin-part-requires
-    returns-2)
+next-move-spec = tie.close (tie.spec take-out-requires add-load load-requires add-load-2 load-requires-2 join-requires returns add-h begin-part-requires returns-2)

@@ -16,7 +16,7 @@ abbrev μ-loop : tie.MeasureT-loop
 μ-loop a₀ n h g q₀ a q = g - q
 
 loop-holds : tie.Need-loop-holds Inv-loop μ-loop
-loop-holds c = λ t S R. turns-begin t S _ _ _ _ R
+loop-holds c = λ t S R. turns-begin R
 
 add-q : tie.Need-add-q Inv-loop μ-loop
 add-q c = omega (arith, c .loop-test .taken, c .before .before .pre .2 .groups .few)
@@ -27,8 +27,8 @@ load-requires c κs = (omega arith, omega arith, omega (arith, c .before .loop-t
 group-one-requires : tie.Need-group-one-requires Inv-loop μ-loop
 group-one-requires c κs =
     let i = c .before .before .before in
-    let w = i .before .before .pre in
-    (w .0, w .1, turn-asked _ _ _ _ _ _ (w .2) _ _ (i .loop-test .taken) _ (i .before .loop .inv _ _ (w .2)) (c .before .load .ensures))
+    let R = i .before .before .pre .2 in
+    turn-asked R (i .loop-test .taken) (i .before .loop .inv _ _ R) (c .before .load .ensures)
 
 loop-less : tie.Need-loop-less Inv-loop μ-loop
 loop-less c = omega (arith, c .before .before .before .before .loop-test .taken)
@@ -37,13 +37,10 @@ loop-again : tie.Need-loop-again Inv-loop μ-loop
 loop-again c = λ t S R.
     let d = c .before in
     let i = d .before .before .before in
-    let M = i .before .loop .inv t S R in
-    let l = i .loop-test .taken in
-    let e = d .before .load .ensures in
-    turn-made t S _ _ _ _ R _ _ l _ M e _ (c .group-one .ensures t S (turn-asked t S _ _ _ _ R _ _ l _ M e))
+    turn-made R (i .loop-test .taken) (i .before .loop .inv t S R) (d .before .load .ensures) (c .group-one .ensures)
 
 returns : tie.Need-returns Inv-loop μ-loop
-returns c = λ t S R. turns-end t S _ _ _ _ R _ (omega (arith, c .loop-test .left)) _ (c .before .loop .inv t S R)
+returns c = λ t S R. turns-end R (omega (arith, c .loop-test .left)) (c .before .loop .inv t S R)
 
 pub group-all-spec : {M : Type 1} → statement M
 group-all-spec = tie.close (tie.spec Inv-loop μ-loop loop-holds add-q load-requires group-one-requires loop-less loop-again returns)

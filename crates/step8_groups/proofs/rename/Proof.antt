@@ -1,10 +1,13 @@
 -- `step8_groups::rename` meets its contract. The loop's invariant, for each table that it may be asked of: the group's positions up to j hold h, and d
 -- is the distance ahead. The measure is what is left of 1000. Assumes nothing.
 use Prim.Native.Nat.{_+_, _-_, _≤_}
+use mathlib.Core.Path.{refl}
 use native.Mathlib.Omega.{arith}
 use borrow.Author.Needs.{needs}
+use Rattle.step1_rows.specs.Rows.{NAME, DIST}
+use Rattle.step1_rows.proofs.Laws.{row-other}
 use Rattle.step8_groups.specs.Sweep.{SweepingRows}
-use Rattle.step8_groups.proofs.Sweeps.{rows-begin, rows-inside, rows-go-on, rows-end}
+use Rattle.step8_groups.proofs.Sweeps.{sweep-begins, sweep-inside, sweep-goes-on, sweep-ends}
 use Rattle.step8_groups.proofs.rename.Statement.{statement}
 use Rattle.step8_groups.proofs.rename.Tie as tie
 
@@ -26,14 +29,14 @@ store-wide-requires c κs = omega (arith, load-wide-requires (c .before .before)
 loop-holds : tie.Need-loop-holds Inv-loop μ-loop
 loop-holds c =
     let w = c .before .before .before .before in
-    rw (c .store-wide .ensures, c .before .before .load-wide .ensures) (rows-begin _ _ _ (w .wide .ensures) (w .before .pre .0))
+    rw (c .store-wide .ensures, c .before .before .load-wide .ensures) (sweep-begins _ _ _ (w .wide .ensures) (w .before .pre .0))
 
 -- the walk stays within the array
 walk-inside : (c : tie.In-loop Inv-loop μ-loop) → (1 ≤ c .before .loop .j + c .before .loop .d) × (c .before .loop .j + c .before .loop .d ≤ 1000)
 walk-inside c =
-    let w = c .before .before .before .before .before .before in
-    let S = rw (c .before .before .store-wide .ensures) at (c .before .loop .inv) in
-    (omega (arith, c .loop-test .taken), rows-inside _ _ _ (w .wide .ensures) (w .before .pre .0) _ _ _ S _ (w .before .pre .1 .1))
+    let s = c .before .before in
+    let W = s .before .before .before .before .before .pre .1 in
+    (omega (arith, c .loop-test .taken), sweep-inside _ _ _ _ _ (c .before .loop .inv) (W .0) (rw (s .store-wide .ensures, row-other _ NAME _ _ DIST refl) (W .1)))
 
 add-j : tie.Need-add-j Inv-loop μ-loop
 add-j c = omega (arith, walk-inside c, c .loop-test .taken)
@@ -50,12 +53,12 @@ loop-less c = let i = c .before .before .before .before in omega (arith, walk-in
 loop-again : tie.Need-loop-again Inv-loop μ-loop
 loop-again c =
     let i = c .before .before .before .before in
-    rw (c .load-wide2 .ensures, c .before .before .store-wide2 .ensures) (rows-go-on _ _ _ _ _ (i .before .loop .inv) (i .loop-test .taken))
+    rw (c .load-wide2 .ensures, c .before .before .store-wide2 .ensures) (sweep-goes-on _ _ _ _ _ (i .before .loop .inv) (i .loop-test .taken))
 
 returns : tie.Need-returns Inv-loop μ-loop
 returns c =
     let w = c .before .before .before .before .before .before in
-    rows-end _ _ _ (w .wide .ensures) (w .before .pre .0) _ _ _ (rw (c .before .before .store-wide .ensures) at (c .before .loop .inv)) (omega (arith, c .loop-test .left))
+    sweep-ends _ _ _ (w .wide .ensures) (w .before .pre .0) _ _ _ (rw (c .before .before .store-wide .ensures) at (c .before .loop .inv)) (omega (arith, c .loop-test .left))
 
 pub rename-spec : {M : Type 1} → statement M
 rename-spec = tie.close (tie.spec Inv-loop μ-loop wide-requires load-wide-requires store-wide-requires loop-holds add-j store-wide-requires-2 load-wide-requires-2 loop-less loop-again returns)

@@ -42,15 +42,4 @@ returns : tie.Need-returns Inv-loop μ-loop
 returns c t S R = let l = c .before .loop in turning-end (omega (arith, l .inv .0, c .loop-test .left)) (l .inv .1) R
 
 pub part-all-spec : {M : Type 1} → statement M
-part-all-spec =
-    tie.close
-    (tie.spec
-    Inv-loop
-    μ-loop
-    loop-holds
-    add-q
-    load-requires
-    part-one-requires
-    loop-less
-    loop-again
-    returns)
+part-all-spec = tie.close (tie.spec Inv-loop μ-loop loop-holds add-q load-requires part-one-requires loop-less loop-again returns)

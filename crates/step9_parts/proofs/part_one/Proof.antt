@@ -32,10 +32,8 @@ returns c =
     let l = w .before .before .before in
     let n = c .rename .ensures in (
       w .weigh .ensures .0,
-      turn-done _ _ _ _ _ _ (l .before .before .pre .1 .long) (w .weigh .ensures .1) (c .before .before .store .ensures) _ _ _ (l .load .ensures) (w .weigh .ensures .2) (y .load2 .ensures) (n .0) (n .1) (n .2),
+      turn-done _ _ _ _ _ _ (l .before .before .pre .1 .long) (w .weigh .ensures .1) (c .before .before .store .ensures) (l .load .ensures) (w .weigh .ensures .2) (y .load2 .ensures) (n .0) (n .1) (n .2),
     )
 
 pub part-one-spec : {M : Type 1} → statement M
-part-one-spec =
-    tie.close
-    (tie.spec load-requires weigh-requires load-requires-2 store-requires rename-requires returns)
+part-one-spec = tie.close (tie.spec load-requires weigh-requires load-requires-2 store-requires rename-requires returns)

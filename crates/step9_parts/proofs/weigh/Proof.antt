@@ -52,17 +52,4 @@ returns-3 c =
     (c .mark2 .ensures .0, W .0, c .mark2 .ensures .1 ∙ W .1)
 
 pub weigh-spec : {M : Type 1} → statement M
-weigh-spec =
-    tie.close
-    (tie.spec
-    load-requires
-    store-requires
-    returns
-    load-requires-2
-    load-requires-3
-    better-requires
-    store-requires-2
-    mark-requires
-    returns-2
-    mark-requires-2
-    returns-3)
+weigh-spec = tie.close (tie.spec load-requires store-requires returns load-requires-2 load-requires-3 better-requires store-requires-2 mark-requires returns-2 mark-requires-2 returns-3)

@@ -4,9 +4,6 @@ use Rattle.steps.proofs.Phases.{held-queued, queued-advanced}
 use Rattle.steps.proofs.advance.Statement.{statement}
 use Rattle.steps.proofs.advance.Tie as tie
 
-push-all-requires : tie.Need-push-all-requires
-push-all-requires c κs = search needs
-
 move-on-requires : tie.Need-move-on-requires
 move-on-requires c κs =
     let H = c .before .before .before .before .before .pre in
@@ -20,4 +17,4 @@ returns c =
     queued-advanced _ _ _ H _ _ _ (P .0) (P .1) (P .2) (P .3) (P .4) (P .5) _ _ (c .move-on .ensures)
 
 pub advance-spec : {M : Type 1} → statement M
-advance-spec = tie.close (tie.spec push-all-requires move-on-requires returns)
+advance-spec = tie.close (tie.spec (λ c κs. search needs) move-on-requires returns)

@@ -4,13 +4,10 @@ use Rattle.steps.proofs.Begins.{began-stands}
 use Rattle.steps.proofs.begin.Statement.{statement}
 use Rattle.steps.proofs.begin.Tie as tie
 
-fresh-requires : tie.Need-fresh-requires
-fresh-requires c κs = search needs
-
 returns : tie.Need-returns
 returns c =
     let P = c .before .before .before .before .pre in
     began-stands _ _ _ _ (P .0) (P .1) (c .fresh .ensures)
 
 pub begin-spec : {M : Type 1} → statement M
-begin-spec = tie.close (tie.spec fresh-requires returns)
+begin-spec = tie.close (tie.spec (λ c κs. search needs) returns)

@@ -4,9 +4,6 @@ use Rattle.steps.proofs.Phases.{moved-turnable, turned-refined}
 use Rattle.steps.proofs.move_on.Statement.{statement}
 use Rattle.steps.proofs.move_on.Tie as tie
 
-move-all-requires : tie.Need-move-all-requires
-move-all-requires c κs = search needs
-
 group-all-requires : tie.Need-group-all-requires
 group-all-requires c κs =
     let D = c .before .before .before .pre in
@@ -26,4 +23,4 @@ returns c =
     turned-refined _ _ _ _ D _ _ _ M _ _ _ (G .1) (G .0) (c .part-all .ensures _ _ (G .0))
 
 pub move-on-spec : {M : Type 1} → statement M
-move-on-spec = tie.close (tie.spec move-all-requires group-all-requires part-all-requires returns)
+move-on-spec = tie.close (tie.spec (λ c κs. search needs) group-all-requires part-all-requires returns)

@@ -1,7 +1,7 @@
--- `text_views::put_width` meets its contract: the six pieces of its text, one after another. Assumes nothing.
+-- `text_views::put_width` meets its contract: the five pieces of its text, one after another. Assumes nothing.
 use borrow.Author.Needs.{needs}
 use Rattle.text_puts.specs.Ascii.{ascii}
-use Rattle.text_views.proofs.Rows.{width-room, number-room, groups-room, loners-room, moves-room, lines-room, width-puts}
+use Rattle.text_views.proofs.Rows.{width-room, number-room, table-room, moves-room, lines-room, width-puts}
 use Rattle.text_views.proofs.put_width.Statement.{statement}
 use Rattle.text_views.proofs.put_width.Tie as tie
 
@@ -19,22 +19,13 @@ put-number-requires c κs =
     let s = u .before .before .before .before .before .before .before in
     number-room _ _ _ _ (s .pre) (u .put-word .ensures)
 
-put-groups-requires : tie.Need-put-groups-requires
+put-table-requires : tie.Need-put-table-requires
 unfolding ascii
-put-groups-requires c κs =
+put-table-requires c κs =
     let u = c .before .before .before in
     let v = u .before .before .before .before in
     let s = v .before .before .before .before .before .before .before in
-    groups-room _ _ _ _ (s .pre) (v .put-word .ensures) (u .put-number .ensures)
-
-put-alone-requires : tie.Need-put-alone-requires
-unfolding ascii
-put-alone-requires c κs =
-    let u = c .before .before .before in
-    let v = u .before .before .before .before in
-    let w = v .before .before .before .before in
-    let s = w .before .before .before .before .before .before .before in
-    loners-room _ _ _ _ (s .pre) (w .put-word .ensures) (v .put-number .ensures) (u .put-groups .ensures)
+    table-room _ _ _ _ (s .pre) (v .put-word .ensures) (u .put-number .ensures)
 
 put-moves-requires : tie.Need-put-moves-requires
 unfolding ascii
@@ -42,9 +33,8 @@ put-moves-requires c κs =
     let u = c .before .before .before in
     let v = u .before .before .before .before in
     let w = v .before .before .before .before in
-    let x = w .before .before .before .before in
-    let s = x .before .before .before .before .before .before .before in
-    moves-room _ _ _ _ (s .pre) (x .put-word .ensures) (w .put-number .ensures) (v .put-groups .ensures) (u .put-alone .ensures)
+    let s = w .before .before .before .before .before .before .before in
+    moves-room _ _ _ _ (s .pre) (w .put-word .ensures) (v .put-number .ensures) (u .put-table .ensures)
 
 put-repeats-requires : tie.Need-put-repeats-requires
 unfolding ascii
@@ -53,10 +43,8 @@ put-repeats-requires c κs =
     let v = u .before .before .before .before in
     let w = v .before .before .before .before in
     let x = w .before .before .before .before in
-    let y = x .before .before .before .before in
-    let s = y .before .before .before .before .before .before .before in
-    lines-room _ _ _ _ (s .pre) (y .put-word .ensures) (x .put-number .ensures) (w .put-groups .ensures) (v .put-alone .ensures)
-    (u .put-moves .ensures)
+    let s = x .before .before .before .before .before .before .before in
+    lines-room _ _ _ _ (s .pre) (x .put-word .ensures) (w .put-number .ensures) (v .put-table .ensures) (u .put-moves .ensures)
 
 same-length : tie.Need-same-length
 same-length c = search needs
@@ -69,10 +57,9 @@ returns c =
     let w = v .before .before .before .before in
     let x = w .before .before .before .before in
     let y = x .before .before .before .before in
-    let z = y .before .before .before .before in
-    let s = z .before .before .before .before .before .before .before in
-    width-puts _ _ _ _ (s .pre) (z .put-word .ensures) (y .put-number .ensures) (x .put-groups .ensures) (w .put-alone .ensures)
-    (v .put-moves .ensures) (u .put-repeats .ensures)
+    let s = y .before .before .before .before .before .before .before in
+    width-puts _ _ _ _ (s .pre) (y .put-word .ensures) (x .put-number .ensures) (w .put-table .ensures) (v .put-moves .ensures)
+    (u .put-repeats .ensures)
 
 pub put-width-spec : {M : Type 1} → statement M
 put-width-spec =
@@ -81,8 +68,7 @@ put-width-spec =
     slice-aggregate-put-word
     put-word-requires
     put-number-requires
-    put-groups-requires
-    put-alone-requires
+    put-table-requires
     put-moves-requires
     put-repeats-requires
     same-length

@@ -6,19 +6,10 @@ use Rattle.partition.proofs.Rows.{kept-of}
 use Rattle.partition.proofs.Partition.fresh.Statement.{statement}
 use Rattle.partition.proofs.Partition.fresh.Tie as tie
 
-cast-n : tie.Need-cast-n
-cast-n c = search needs
-
-begin-requires : tie.Need-begin-requires
-begin-requires c κs = (search needs, search needs, begin-asks .0, begin-asks .1, begin-asks .2)
-
-kept-requires : tie.Need-kept-requires
-kept-requires c κs = search needs
-
 returns : tie.Need-returns
 returns c =
     let S = c .before .before .begin .ensures in
     kept-of _ _ _ _ _ (c .kept .ensures) (S .held .long) _ _ refl S
 
 pub fresh-spec : {M : Type 1} → statement M
-fresh-spec = tie.close (tie.spec cast-n begin-requires kept-requires returns)
+fresh-spec = tie.close (tie.spec (λ c. search needs) (λ c κs. (search needs, search needs, begin-asks .0, begin-asks .1, begin-asks .2)) (λ c κs. search needs) returns)

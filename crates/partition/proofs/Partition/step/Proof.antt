@@ -15,19 +15,10 @@ returns c =
     let e = step-still (p .width) (groups p) (smallOnes p) (omega (arith, c .if1 .taken, good-long p (s .pre))) in
     (s .pre, refl, sym (e .0), sym (e .1), sym (e .2), sym (e .3), λ h. refl)
 
-rows-of-requires : tie.Need-rows-of-requires
-rows-of-requires c κs = search needs
-
 advance-requires : tie.Need-advance-requires
 advance-requires c κs =
     let s = c .before .before .before .before .before in
     rw (c .before .before .rows-of .ensures) (s .pre .held)
-
-add-kept : tie.Need-add-kept
-add-kept c = search needs
-
-kept-requires : tie.Need-kept-requires
-kept-requires c κs = search needs
 
 returns-2 : tie.Need-returns-2
 returns-2 c =
@@ -37,4 +28,4 @@ returns-2 c =
     (S .0, S .1, S .2, S .3, S .4, S .5, λ h. absurd (omega (arith, h, l)))
 
 pub step-spec : {M : Type 1} → statement M
-step-spec = tie.close (tie.spec returns rows-of-requires advance-requires add-kept kept-requires returns-2)
+step-spec = tie.close (tie.spec returns (λ c κs. search needs) advance-requires (λ c. search needs) (λ c κs. search needs) returns-2)

@@ -1,0 +1,3 @@
+pub mod Nexts
+pub mod Pass
+pub mod Settled

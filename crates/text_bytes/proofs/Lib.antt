@@ -1,0 +1,4 @@
+pub mod Bytes
+pub mod Visible
+pub mod Told
+pub mod Settled
