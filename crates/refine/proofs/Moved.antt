@@ -8,7 +8,7 @@ use mathlib.Core.List.{List}
 use native.Mathlib.Omega.{arith}
 use lib.ListN.{length}
 use lib.Dec.{leb, eqb}
-use borrow.Author.Tests.{leb-true, leb-false, le-leb, eqb-true, eq-eqb, ne-eqb, not-true}
+use borrow.Author.Tests.{leb-true, le-leb, eqb-true, eq-eqb, ne-eqb, not-true}
 use Rattle.words.specs.Range.{first}
 use Rattle.words.specs.Reads.{at}
 use Rattle.words.specs.Groups.{Least, size}
@@ -64,14 +64,6 @@ module _ (t Q : List ℕ) (k : ℕ) where
       let s = test-is sought (sought-is .pass (omega arith)) in
       rw (← (rw h at e)) (record { low = sought-is .low; high = b; of = s .0; kept = s .1; least = earlier }))
       (λ h. let z : 0 ≡ j = rw h at e in absurd (omega arith))
-      (either (leb sought (length t)))
-
-  pub stayer-none : stayer t Q k ≡ 0 → (i : ℕ) → 1 ≤ i → i ≤ length t → at t i ≡ k → has Q i ≡ true
-  unfolding stayer
-  stayer-none e i a b s =
-      ⊎-elim
-      (λ h. let q : sought ≡ 0 = rw h at e in absurd (omega (arith, q, sought-is .low)))
-      (λ h. earlier i a (omega (arith, leb-false sought (length t) h)) s)
       (either (leb sought (length t)))
 
   pub stays-stayer : (j : ℕ) → Stays t Q k j → stayer t Q k ≡ j
