@@ -1,15 +1,15 @@
--- What the list and log calls made of a read: on success the front of the slice is the read's list or log, whole, and a read of at most
--- 1,000 bytes always has room for its log. Assumes nothing.
+-- What was heard of a line, and what the log call made of its read: on success the front of the slice is the read's list or log, whole, and a read of at
+-- most 1,000 bytes always has room for its log. Assumes nothing.
 use Prim.Native.Nat.{ℕ, zero, suc, _+_, _-_, _*_, _^_, _≤_, _<_}
 use mathlib.Core.Path.{_≡_, refl, sym, ap, _∙_}
-use mathlib.Core.Logic.{_⊎_, inl, inr, _≢_}
+use mathlib.Core.Logic.{_≢_}
 use mathlib.Core.List.{List, [], _∷_}
 use native.Mathlib.Omega.{arith}
 use native.Mathlib.Nat.{mul-le-mul-left, eq-of-mul-eq-mul-left}
 use lib.ListN.{length, length-append, length-replicate, replicate, getD, take, drop}
 use lib.Seq.{length-take-le, take-at}
 use lib.Dec.{eqb}
-use borrow.Author.Tests.{eq-eqb, ne-eqb}
+use borrow.Author.Tests.{eq-eqb, ne-eqb, le-ltb}
 use Rattle.words.specs.Range.{first, gather}
 use Rattle.words.specs.Rows.{rows}
 use Rattle.words.specs.Reads.{most}
@@ -17,9 +17,8 @@ use Rattle.words.specs.ByPeriod.{byPeriod}
 use Rattle.words.specs.Lists.{lineSize, linesAt, lines, lineCount, inMode}
 use Rattle.words.specs.Moves.{moveSize, log, log2, M}
 use Rattle.words.specs.declared.Listed.{Listed}
-use Rattle.words.specs.Answers.{Answer, success, refusal, listedSays}
-use Rattle.words.specs.Calls.{listAnswer, listLeaves, logAnswer, logLeaves}
-use Rattle.words.proofs.Tests.{lt-or-ge}
+use Rattle.words.specs.Answers.{Answer, success, listedSays}
+use Rattle.words.specs.Calls.{refuse, tooLong, afterwards, logAnswer, logLeaves}
 use Rattle.words.proofs.Rows.{rows-times}
 use Rattle.words.proofs.MoveLayout.{move-some}
 use Rattle.words.proofs.LineLayout.{line-some}
@@ -28,19 +27,23 @@ use Rattle.words.proofs.Lines.{lines-top}
 use Rattle.words.proofs.Room.{log-length}
 use Rattle.words.proofs.Sizes.{room-few}
 use Rattle.words.proofs.Afterwards.{front}
-use Rattle.lister.proofs.Answered.{list-by, log-by}
 use Rattle.call_answers.specs.declared.Answer.{Answer as Plain}
 use Rattle.call_answers.specs.Plain.{plain}
 use Rattle.call_answers.proofs.One.{listed-one}
 use Rattle.text_answers.specs.Texts.{refusedText}
-use Rattle.text_streams.specs.Heard.{roomFor, heard}
-use Rattle.text_streams.proofs.Hearing.{heard-read}
+use Rattle.text_lines.specs.Lines.{Keeps}
+use Rattle.text_lines.proofs.Keeping.{keeps-whole}
+use Rattle.text_outs.specs.declared.Out.{Out}
+use Rattle.text_hears.specs.Heard.{heard, Hears}
+use Rattle.text_hears.proofs.Hearing.{done}
+use Rattle.bench_shows.specs.Collecting.{Collects}
 use Rattle.bench_shows.specs.Places.{firstDiffer}
 use Rattle.bench_shows.specs.declared.Place.{Place}
 use Rattle.bench_widths.specs.Views.{widthsOf}
 use Rattle.bench_widths.specs.Reaching.{Reached}
-use Rattle.bench_reads.specs.Views.{readView, viewText, viewed}
 use Rattle.bench_widths.proofs.Reaching.{widths-top, widths-none}
+use Rattle.bench_reads.specs.Views.{readView, viewText, viewed}
+use Rattle.bench_reads.specs.Steps.{Viewed}
 
 -- the front of a slice
 front-takes : (made old : List ℕ) (n : ℕ) → length made ≡ n → (take n (front made old) ≡ made) × (n ≤ length (front made old))
@@ -69,85 +72,82 @@ enough (suc n) h = mul-le-mul-left moveSize (omega (arith, room-few (suc n) (ome
 
 module _ (x out : List ℕ) (few : length x ≤ most) (room : moveSize * M most ≤ length out) {a : Answer} {made : List ℕ}
     (says : a ≡ logAnswer x out) (left : made ≡ logLeaves x out) {k : ℕ} (told : k ≡ plain a .value) where
-  done : (logAnswer x out ≡ success (rows moveSize (log x))) × (logLeaves x out ≡ front (log x) out)
-  unfolding success refusal
-  done = log-by x out .gives 0 (few, omega (arith, enough (length x) few))
+  done-log : (logAnswer x out ≡ success (rows moveSize (log x))) × (logLeaves x out ≡ front (log x) out)
+  unfolding logAnswer logLeaves afterwards refuse tooLong success
+  done-log = let r = le-ltb (length out) (moveSize * M (length x)) (omega (arith, enough (length x) few)) in (rw (le-ltb most (length x) few, r), rw (le-ltb most (length x) few, r))
 
   log-size : length (log x) ≡ moveSize * k
   unfolding plain success
   log-size =
-      let e : k ≡ rows moveSize (log x) = told ∙ ap (λ (v : Answer). plain v .value) (says ∙ done .0) in
+      let e : k ≡ rows moveSize (log x) = told ∙ ap (λ (v : Answer). plain v .value) (says ∙ done-log .0) in
       log-length x ∙ ap (λ (v : ℕ). moveSize * v) (sym (e ∙ rows-times moveSize (log x) _ move-some (log-length x)))
 
   pub log-front : take (moveSize * k) made ≡ log x
-  log-front = ap (take (moveSize * k)) (left ∙ done .1) ∙ front-takes (log x) out (moveSize * k) log-size .0
+  log-front = ap (take (moveSize * k)) (left ∙ done-log .1) ∙ front-takes (log x) out (moveSize * k) log-size .0
 
   pub log-inside : moveSize * k ≤ length made
-  log-inside = omega (arith, ap length (left ∙ done .1), front-takes (log x) out (moveSize * k) log-size .1)
+  log-inside = omega (arith, ap length (left ∙ done-log .1), front-takes (log x) out (moveSize * k) log-size .1)
 
 -- ---- the list
-
--- the call's answer goes by the lines that a slice has room for
-answer-room : (x list made : List ℕ) → rows lineSize list ≡ rows lineSize made → listAnswer x 0 list ≡ listAnswer x 0 made
-unfolding listAnswer
-answer-room x list made e = rw e
-
-room-rows : rows lineSize (roomFor 10000) ≡ 10000
-unfolding roomFor
-room-rows = rows-times lineSize (roomFor 10000) 10000 line-some (length-replicate {A = ℕ} (lineSize * 10000) 0)
 
 -- an answer of the list call is its number and its one value
 pub list-told : (f : Listed) {a : Plain} → a ≡ plain (listedSays f) → listedSays f ≡ record { number = a .number; values = a .value ∷ [] }
 unfolding plain
 list-told f e = rw e (ap (λ (v : List ℕ). record { number = listedSays f .number; values = v }) (listed-one f))
 
-module _ (x list : List ℕ) {n v : ℕ} (told : listAnswer x 0 list ≡ record { number = n; values = v ∷ [] }) where
-  number-is : listAnswer x 0 list .number ≡ n
-  number-is = ap (λ (a : Answer). a .number) told
+module _ {line : List ℕ} {len : ℕ} {list : List ℕ} {a : Answer} {made : List ℕ} (H : Hears line len list a made) {n v : ℕ}
+    (told : a ≡ record { number = n; values = v ∷ [] }) where
+  number-is : a .number ≡ n
+  number-is = ap (λ (b : Answer). b .number) told
 
-  -- what is printed goes by that answer, whose slice has room for 10,000 lines
-  module _ (small : length x < 2 ^ 64) (room : length list ≡ lineSize * 10000) where
-    heard-is : heard 10000 x ≡ listAnswer x 0 list
-    heard-is = heard-read 10000 x small ∙ answer-room x (roomFor 10000) list (room-rows ∙ sym (rows-times lineSize list 10000 line-some room))
+  -- what is shown goes by that answer, whose slice has room for 10,000 lines
+  module _ (room : length list ≡ lineSize * 10000) where
+    heard-is : (x : List ℕ) → Keeps x len line → heard 10000 x ≡ a
+    heard-is x k = ap (λ (r : ℕ). heard r x) (sym (rows-times lineSize list 10000 line-some room)) ∙ sym (H .says x k)
 
-    pub view-read : n ≡ 0 → viewed x ≡ readView x
+    view-read : n ≡ 0 → (x : List ℕ) → Keeps x len line → viewed x ≡ readView x
     unfolding viewed viewText
-    view-read z = rw (heard-is, number-is, z)
+    view-read z x k = rw (heard-is x k, number-is, z)
 
-    pub view-refused : n ≢ 0 → viewed x ≡ refusedText n (v ∷ [])
+    view-refused : n ≢ 0 → (x : List ℕ) → Keeps x len line → viewed x ≡ refusedText n (v ∷ [])
     unfolding viewed viewText
-    view-refused ne = rw (heard-is, told, ne-eqb n 0 ne)
+    view-refused ne x k = rw (heard-is x k, told, ne-eqb n 0 ne)
 
-  module _ (z : n ≡ 0) where
-    differs : (k w : ℕ) → listAnswer x 0 list ≡ refusal (suc k) w → {A : Type 0} → A
-    unfolding refusal
-    differs k w e = absurd (omega (arith, z, number-is, ap (λ (a : Answer). a .number) e))
+    module _ {buf : List ℕ} {o : Out} {after : List ℕ} {r : Out} where
+      pub viewed-refused : n ≢ 0 → Collects buf o (refusedText n (v ∷ [])) after r → Viewed line len buf o after r
+      viewed-refused ne c = record { same = c .same; inside = c .inside; text = λ x k. rw (view-refused ne x k) c }
 
-    list-done : (length x ≤ most) × (v ≡ lineCount x (inMode x 0)) × (listLeaves x 0 list ≡ front (lines x (inMode x 0)) list)
-    unfolding success refusal
-    list-done = go (lt-or-ge most (length x)) (lt-or-ge (rows lineSize list) (lineCount x (inMode x 0)))
-      where
-        go : (most < length x) ⊎ (length x ≤ most) → (rows lineSize list < lineCount x (inMode x 0)) ⊎ (lineCount x (inMode x 0) ≤ rows lineSize list) →
-            (length x ≤ most) × (v ≡ lineCount x (inMode x 0)) × (listLeaves x 0 list ≡ front (lines x (inMode x 0)) list)
-        go (inl h) l = differs 0 (length x) (list-by x 0 list .gives 1 h .0)
-        go (inr h) (inl l) = differs 2 (lineCount x (inMode x 0)) (list-by x 0 list .gives 3 (h, omega arith, l) .0)
-        go (inr h) (inr l) =
-            let d = list-by x 0 list .gives 0 (h, omega arith, l) in
-            (h, ap (λ (a : Answer). getD (a .values) 0 0) (sym told ∙ d .0), d .1)
+      pub viewed-read : n ≡ 0 → most < length line → length line < 2 ^ 64 → Collects buf o (readView (take len line)) after r → Viewed line len buf o after r
+      viewed-read z long m c =
+          record {
+            same = c .same;
+            inside = c .inside;
+            text = λ x k.
+                let s : x ≡ take len line = keeps-whole k (omega (arith, H .few (number-is ∙ z))) m in
+                rw (view-read z x k, s) c;
+          }
+
+  module _ (long : most < length line) (m : length line < 2 ^ 64) (z : n ≡ 0) where
+    abbrev x : List ℕ
+    x = take len line
+
+    pub line-few : len ≤ most
+    line-few = H .few (number-is ∙ z)
 
     pub list-few : length x ≤ most
-    list-few = list-done .0
+    list-few = omega (arith, line-few, length-take-le len line (omega (arith, line-few)))
 
     list-size : length (lines x (inMode x 0)) ≡ lineSize * v
-    unfolding lineCount
-    list-size = lines-full x (inMode x 0) ∙ ap (λ (k : ℕ). lineSize * k) (sym (list-done .1))
+    unfolding lineCount success
+    list-size =
+        lines-full x (inMode x 0)
+        ∙ ap (λ (b : Answer). lineSize * getD (b .values) 0 0) (sym (done long m H (number-is ∙ z) .0) ∙ told)
 
-    module _ {made : List ℕ} (left : made ≡ listLeaves x 0 list) where
-      pub list-front : take (lineSize * v) made ≡ lines x (inMode x 0)
-      list-front = ap (take (lineSize * v)) (left ∙ list-done .2) ∙ front-takes (lines x (inMode x 0)) list (lineSize * v) list-size .0
+    pub list-front : take (lineSize * v) made ≡ lines x (inMode x 0)
+    list-front = ap (take (lineSize * v)) (done long m H (number-is ∙ z) .2) ∙ front-takes (lines x (inMode x 0)) list (lineSize * v) list-size .0
 
-      pub list-inside : lineSize * v ≤ length made
-      list-inside = omega (arith, ap length (left ∙ list-done .2), front-takes (lines x (inMode x 0)) list (lineSize * v) list-size .1)
+    pub list-inside : lineSize * v ≤ length made
+    list-inside = omega (arith, ap length (done long m H (number-is ∙ z) .2), front-takes (lines x (inMode x 0)) list (lineSize * v) list-size .1)
 
 -- ---- the verdict
 

@@ -7,7 +7,7 @@ use lib.Dec.{eqb}
 use Rattle.words.specs.Range.{gather}
 use Rattle.words.specs.Answers.{Answer}
 use Rattle.text_answers.specs.Texts.{refusedText}
-use Rattle.text_streams.specs.Heard.{heard}
+use Rattle.text_hears.specs.Heard.{heard}
 use Rattle.text_views.specs.Views.{headText, verdictText}
 use Rattle.bench_widths.specs.Views.{widthView, widthsOf}
 

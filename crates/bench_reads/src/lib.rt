@@ -1,11 +1,12 @@
-// A read at the bench: its list and its log are made, and from them its view is collected, or the refusal of its list.
+// A line at the bench: the list and the log of its read are made, and from them its view is collected, or the refusal of its list.
 ghost use mathlib.Core.Path.{_≡_};
 ghost use Prim.Native.Nat.{_*_, _≤_};
 ghost use lib.ListN.{length, take};
 ghost use Rattle.words.specs.Reads.{most};
 ghost use Rattle.words.specs.Lists.{lineSize, lines, inMode};
 ghost use Rattle.bench_shows.specs.Collecting.{Roomy, Collects};
-ghost use Rattle.bench_reads.specs.Views.{readView, viewed};
+ghost use Rattle.bench_reads.specs.Views.{readView};
+ghost use Rattle.bench_reads.specs.Steps.{Viewed};
 use bench_shows::collect_head;
 use bench_shows::collect_refusal;
 use bench_shows::collect_verdict;
@@ -14,7 +15,7 @@ use bench_widths::show_widths;
 use bench_widths::widths;
 use row_lines::line_size;
 use row_moves::move_size;
-use text_streams::Out;
+use text_outs::Out;
 
 // shows a read whose list of `count` lines is made; the log has room for that of any read
 fn show_read(read: &[u8], list: &[u16], count: usize, buf: &mut [u8], start: Out) -> Out
@@ -22,7 +23,7 @@ fn show_read(read: &[u8], list: &[u16], count: usize, buf: &mut [u8], start: Out
     ensures { λ r. ⌜ Collects (now (buf .entry)) start (readView (now (read .entry))) (now (buf .exit)) r ⌝ }
 {
     let mut log = [0u16; 29970];
-    let found = call_answers::logged(lister::log(read, &mut log));
+    let found = call_answers::logged(call_logs::log(read, &mut log));
     let moves = move_size() * found.value as usize;
     let size = line_size() * count;
     let o = collect_head(read, buf, start);
@@ -36,15 +37,15 @@ fn show_read(read: &[u8], list: &[u16], count: usize, buf: &mut [u8], start: Out
     )
 }
 
-// shows a read, or says why its list was refused; the list has room for 10,000 lines
-pub fn show(read: &[u8], buf: &mut [u8], start: Out) -> Out
-    requires { ⌜ Roomy (now buf) (start .used) ⌝ }
-    ensures { λ r. ⌜ Collects (now (buf .entry)) start (viewed (now (read .entry))) (now (buf .exit)) r ⌝ }
+// shows the read of a line of `len` bytes, or says why its list was refused; the list has room for 10,000 lines
+pub fn show(line: &[u8], len: usize, buf: &mut [u8], start: Out) -> Out
+    requires { ⌜ (1001 ≤ length (now line)) × Roomy (now buf) (start .used) ⌝ }
+    ensures { λ r. ⌜ Viewed (now (line .entry)) len (now (buf .entry)) start (now (buf .exit)) r ⌝ }
 {
     let mut list = [0u16; 30000];
-    let a = call_answers::listed(lister::list(read, 0, &mut list));
+    let a = call_answers::listed(text_hears::hear(line, len, &mut list));
     if a.number == 0 {
-        return show_read(read, &list, a.value as usize, buf, start);
+        return show_read(&line[..len], &list, a.value as usize, buf, start);
     }
     collect_refusal(a.number as u64, a.value, buf, start)
 }

@@ -4,25 +4,11 @@ ghost use Prim.Native.Nat.{_≤_};
 ghost use lib.ListN.{length};
 ghost use Rattle.bench_shows.specs.Collecting.{Roomy};
 ghost use Rattle.bench_reads.specs.Views.{viewed};
-ghost use Rattle.bench_runs.specs.Steps.{Viewed};
 ghost use Rattle.text_streams.specs.Cuts.{Within};
 ghost use Rattle.text_streams.specs.Runs.{Advances, Stopped, Ran};
 use bench_reads::show;
-use bench_shows::collect_refusal;
-use read_edges::MOST;
-use text_streams::Out;
+use text_outs::Out;
 use text_streams::State;
-
-// shows a line of `len` bytes: the bytes that are kept of a line over the limit are not the read, so it is refused here
-fn answer(line: &[u8], len: usize, buf: &mut [u8], start: Out) -> Out
-    requires { ⌜ (1001 ≤ length (now line)) × Roomy (now buf) (start .used) ⌝ }
-    ensures { λ r. ⌜ Viewed (now (line .entry)) len (now (buf .entry)) start (now (buf .exit)) r ⌝ }
-{
-    if MOST < len {
-        return collect_refusal(1, len as u64, buf, start);
-    }
-    show(&line[..len], buf, start)
-}
 
 // one turn: the line that it found is answered
 fn step(input: &mut [u8], line: &mut [u8], buf: &mut [u8], s: State) -> State
@@ -35,19 +21,19 @@ fn step(input: &mut [u8], line: &mut [u8], buf: &mut [u8], s: State) -> State
     if t.found {
         let source = after.source;
         let o = after.out;
-        let out = answer(line, t.len, buf, o);
+        let out = show(line, t.len, buf, o);
         return State { source, out };
     }
     after
 }
 
-// all lines. Nothing says that the input ends, so the loop counts its turns down, from a number that no run uses up.
+// all lines, turn by turn
 fn all(input: &mut [u8], line: &mut [u8], buf: &mut [u8]) -> Out
     requires { ⌜ (1001 ≤ length (now line)) × Roomy (now buf) 0 ⌝ }
     ensures { λ r. ⌜ (r .used ≤ length (now (buf .exit))) × Stopped viewed (now (buf .exit)) r ⌝ }
 {
     let mut s = text_streams::begin();
-    let mut turns = u64::MAX;
+    let mut turns = text_streams::most_turns();
     while turns > 0 {
         s = step(input, line, buf, s);
         if !text_streams::goes_on(s) {
@@ -64,5 +50,5 @@ pub fn run(input: &mut [u8], line: &mut [u8], buf: &mut [u8])
     ensures { λ _. ⌜ Ran viewed ⌝ }
 {
     let o = all(input, line, buf);
-    text_streams::flush(buf, o);
+    text_outs::flush(buf, o);
 }

@@ -10,10 +10,10 @@ use Rattle.words.specs.Range.{gather}
 use Rattle.words.proofs.Ranges.{gather-next}
 use Rattle.text_puts.specs.Puts.{placed, Room, Puts}
 use Rattle.text_puts.proofs.Putting.{puts-length}
-use Rattle.text_streams.specs.Outputs.{nextPlace, Adds}
-use Rattle.text_streams.specs.declared.Out.{Out}
-use Rattle.text_streams.proofs.Placing.{place-room}
-use Rattle.text_streams.proofs.Telling.{adds-none, adds-text, adds-more}
+use Rattle.text_outs.specs.Outputs.{nextPlace, Adds}
+use Rattle.text_outs.specs.declared.Out.{Out}
+use Rattle.text_outs.proofs.Placing.{place-room}
+use Rattle.text_outs.proofs.Telling.{adds-none, adds-text, adds-more}
 use Rattle.bench_shows.specs.Collecting.{Collects}
 
 module _ (need : ℕ) (s : Out) {buf text : List ℕ} {o : Out} (small : length text ≤ need) (fits : need ≤ length buf)

@@ -3,8 +3,8 @@ use Prim.Native.Nat.{ℕ, _≤_}
 use mathlib.Core.Path.{_≡_}
 use mathlib.Core.List.{List}
 use lib.ListN.{length}
-use Rattle.text_streams.specs.Outputs.{Adds}
-use Rattle.text_streams.specs.declared.Out.{Out}
+use Rattle.text_outs.specs.Outputs.{Adds}
+use Rattle.text_outs.specs.declared.Out.{Out}
 
 -- room for the text of any width of a read, in bytes
 abbrev pub longest : ℕ

@@ -19,14 +19,14 @@ use row_lines::period_cell;
 use row_moves::entries;
 use row_moves::move_size;
 use row_moves::width_cell;
-use text_streams::Out;
+use text_outs::Out;
 
 // collects the first line of a read's view
 pub fn collect_head(read: &[u8], buf: &mut [u8], start: Out) -> Out
     requires { ⌜ (length (now read) ≤ most) × Roomy (now buf) (start .used) ⌝ }
     ensures { λ r. ⌜ Collects (now (buf .entry)) start (headText (now (read .entry))) (now (buf .exit)) r ⌝ }
 {
-    let o = text_streams::room(buf, 4 * read.len() + 27, start);
+    let o = text_outs::room(buf, 4 * read.len() + 27, start);
     let at = o.used;
     let end = text_views::put_head(buf, at, read);
     Out {
@@ -51,7 +51,7 @@ fn collect_width(
     // a line: a word, and six bytes for each number
     let each = 9 + 6 * line_size();
     let need = 27 * table.len() + 27 * entries(moves) + each * row_lines::room(lines) + 64;
-    let o = text_streams::room(buf, need, start);
+    let o = text_outs::room(buf, need, start);
     let at = o.used;
     let end = text_views::put_width(buf, at, w, table, moves, lines);
     Out {
@@ -65,7 +65,7 @@ pub fn collect_verdict(w: usize, buf: &mut [u8], start: Out) -> Out
     requires { ⌜ Roomy (now buf) (start .used) ⌝ }
     ensures { λ r. ⌜ Collects (now (buf .entry)) start (verdictText w) (now (buf .exit)) r ⌝ }
 {
-    let o = text_streams::room(buf, 64, start);
+    let o = text_outs::room(buf, 64, start);
     let at = o.used;
     let end = text_views::put_verdict(buf, at, w);
     Out {
@@ -79,7 +79,7 @@ pub fn collect_refusal(number: u64, value: u64, buf: &mut [u8], start: Out) -> O
     requires { ⌜ (number < 2 ^ 32) × Roomy (now buf) (start .used) ⌝ }
     ensures { λ r. ⌜ Collects (now (buf .entry)) start (refusedText number (value ∷ [])) (now (buf .exit)) r ⌝ }
 {
-    let o = text_streams::room(buf, 64, start);
+    let o = text_outs::room(buf, 64, start);
     let at = o.used;
     let end = text_answers::put_refused(buf, at, number, value);
     Out {

@@ -27,7 +27,7 @@ use Rattle.words.proofs.MoveLayout.{move-some, width-inside}
 use Rattle.words.proofs.LineLayout.{line-length, period-inside}
 use Rattle.words.proofs.Lines.{lines-at-each, lines-top}
 use Rattle.words.proofs.Room.{moves-length}
-use Rattle.text_streams.specs.declared.Out.{Out}
+use Rattle.text_outs.specs.declared.Out.{Out}
 use Rattle.bench_agrees.specs.Parts.{partEnd}
 use Rattle.bench_agrees.proofs.Agree.{list-and-groups-agree}
 use Rattle.bench_agrees.proofs.Parts.{Keyed, keyed-cond, part-starts, part-end, part-is}

@@ -11,7 +11,7 @@ use bench_shows::Place;
 use bench_shows::show_table;
 use call_renames::replay_width;
 use call_replays::first_groups;
-use text_streams::Out;
+use text_outs::Out;
 
 // how many widths are shown of a read of n bytes
 pub fn widths(n: usize) -> usize

@@ -5,6 +5,7 @@ use Rattle.call_answers.proofs.tabled.Reads as tabled
 use Rattle.call_answers.proofs.logged.Reads as logged
 use Rattle.call_answers.proofs.replayed.Reads as replayed
 use Rattle.call_answers.proofs.claimed.Reads as claimed
+use Rattle.call_answers.proofs.taken.Reads as taken
 
 pub listed-settled : (κs : _) (a : _) (x y : _) (e f : _) → listed.Learnt κs a x e → listed.Learnt κs a y f → x ≡ y
 listed-settled κs a x y e f p q = p ∙ sym q
@@ -20,3 +21,6 @@ replayed-settled κs a x y e f p q = p ∙ sym q
 
 pub claimed-settled : (κs : _) (a : _) (x y : _) (e f : _) → claimed.Learnt κs a x e → claimed.Learnt κs a y f → x ≡ y
 claimed-settled κs a x y e f p q = p ∙ sym q
+
+pub taken-settled : (κs : _) (a : _) (x y : _) (e f : _) → taken.Learnt κs a x e → taken.Learnt κs a y f → x ≡ y
+taken-settled κs a x y e f p q = p ∙ sym q

@@ -3,12 +3,14 @@
 ghost use mathlib.Core.Path.{_≡_};
 ghost use Rattle.words.specs.Answers.{listedSays, tabledSays, loggedSays, replayedSays, claimedSays};
 ghost use Rattle.words.specs.Answers.{success as saysSuccess, refusal as saysRefusal};
-ghost use Rattle.call_answers.specs.Plain.{plain};
+ghost use Rattle.call_answers.specs.Plain.{plain, plainMove};
 use words::Claimed;
+use words::Entry;
 use words::Listed;
 use words::Logged;
 use words::Replayed;
 use words::Tabled;
+use words::Taken;
 
 // An answer: its number, 0 for success and else the refusal's, and the values returned with it, 0 for each that it has not.
 #[repr(C)]
@@ -17,6 +19,16 @@ pub struct Answer {
     pub value: u64,
     // the second value; a signed one will stand here in two's complement
     pub more: u64,
+}
+
+// The next entry of a log, if one was found, and the place after it.
+#[repr(C)]
+pub struct Move {
+    pub at: usize,
+    pub found: u16,
+    pub width: u16,
+    pub name: u16,
+    pub position: u16,
 }
 
 // a success that returns one value
@@ -97,5 +109,33 @@ pub fn claimed(a: Claimed) -> Answer
         Claimed::Yes => success(1),
         Claimed::No => success(0),
         Claimed::TooLong(long) => refusal(1, long),
+    }
+}
+
+// what the log reader gives
+pub fn taken(t: Taken) -> Move
+    ensures { λ r. ⌜ r ≡ plainMove t ⌝ }
+{
+    let at = t.at;
+    let e = t.entry;
+    match e {
+        Entry::Move {
+            width,
+            name,
+            position,
+        } => Move {
+            at,
+            found: 1,
+            width,
+            name,
+            position,
+        },
+        Entry::Ended => Move {
+            at,
+            found: 0,
+            width: 0,
+            name: 0,
+            position: 0,
+        },
     }
 }

@@ -1,11 +1,5 @@
-pub mod Refuted
-pub mod Letters
-pub mod Compared
-pub mod Stretched
-pub mod Counted
-pub mod Agreed
-pub mod Shorter
 pub mod Repeated
 pub mod Said
 pub mod Motifs
+pub mod Parts
 pub mod Settled

@@ -8,8 +8,8 @@ use borrow.Author.Tests.{le-leb}
 use Rattle.words.specs.Repeats.{primitive, copies, repeats}
 use Rattle.words.proofs.Repeats.{Repeat, repeat-is}
 use Rattle.words.proofs.Copies.{repeat-copies}
-use Rattle.call_claims.proofs.Refuted.{test-refuted}
-use Rattle.call_claims.proofs.Counted.{counted-stands, counted-ends}
+use Rattle.call_copies.proofs.Refuted.{test-refuted}
+use Rattle.call_copies.proofs.Counted.{counted-stands, counted-ends}
 
 module _ (x : List ℕ) (i p e : ℕ) where
   pub repeat-fails : (Repeat x i p e → ⊥) → false ≡ repeats x i p e

@@ -3,9 +3,7 @@ use mathlib.Core.Path.{_≡_, sym, _∙_}
 use denote.Ref.{ptr, now}
 use Rattle.call_claims.proofs.claim.Reads as claim
 use Rattle.call_claims.proofs.motif.Reads as motif
-use Rattle.call_claims.proofs.copies_at.Reads as copies-at
-use Rattle.call_claims.proofs.is_primitive.Reads as is-primitive
-use Rattle.call_claims.proofs.is_leading.Reads as is-leading
+use Rattle.call_claims.proofs.motif_part.Reads as motif-part
 use Rattle.call_claims.proofs.Said.{said-once}
 
 pub claim-settled : (κs : _) (a : _) (x y : _) (e f : _) → claim.Learnt κs a x e → claim.Learnt κs a y f → x ≡ y
@@ -15,11 +13,5 @@ claim-settled κs a x y e f p q = said-once x y (p ∙ sym q)
 pub motif-settled : (κs : _) (a : _) (x y : _) (e f : _) → motif.Learnt κs a x e → motif.Learnt κs a y f → (now x ≡ now y) × (ptr x ≡ ptr y)
 motif-settled κs a x y e f p q = (p .0 ∙ sym (q .0), λ j. ((p .1 ∙ sym (q .1)) j, (p .2 ∙ sym (q .2)) j))
 
-pub copies-at-settled : (κs : _) (a : _) (x y : _) (e f : _) → copies-at.Learnt κs a x e → copies-at.Learnt κs a y f → x ≡ y
-copies-at-settled κs a x y e f p q = p ∙ sym q
-
-pub is-primitive-settled : (κs : _) (a : _) (x y : _) (e f : _) → is-primitive.Learnt κs a x e → is-primitive.Learnt κs a y f → x ≡ y
-is-primitive-settled κs a x y e f p q = p ∙ sym q
-
-pub is-leading-settled : (κs : _) (a : _) (x y : _) (e f : _) → is-leading.Learnt κs a x e → is-leading.Learnt κs a y f → x ≡ y
-is-leading-settled κs a x y e f p q = p ∙ sym q
+pub motif-part-settled : (κs : _) (a : _) (x y : _) (e f : _) → motif-part.Learnt κs a x e → motif-part.Learnt κs a y f → x ≡ y
+motif-part-settled κs a x y e f p q = p ∙ sym q

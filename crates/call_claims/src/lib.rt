@@ -1,138 +1,24 @@
-// The claim check, the motif of a true claim, and the words that they rest on. All answer any read and any numbers.
+// The claim check, and the motif of a true claim. Both answer any read and any numbers.
 // `claim` promises refusal 1 for a read over the limit, and else yes exactly if (start, period, copies) is a repeat.
-// `motif` promises that part of the read, by its bytes and by where it starts; the empty part at the read's front unless `claim` says yes.
-// `copies_at`, `is_primitive` and `is_leading` each decide one word of document 01, and promise the definition of that word. They are meant
-// for a start and a period from 1 on; at 0, and past the read's end, they answer what the definition computes there, and so ask for nothing.
-// Each compares no more bytes than the read has, `is_primitive` for each shorter motif.
+// `motif` promises that part of the read, by its bytes and by where it starts; the empty part at the read's front unless `claim` says yes. `motif_part` gives
+// its place and its count.
 ghost use mathlib.Core.Path.{_≡_};
-ghost use Prim.Native.Nat.{_+_, _≤_, _<_};
-ghost use lib.ListN.{length};
+ghost use Prim.Native.Nat.{_+_};
 ghost use denote.Ref.{ptr};
-ghost use Rattle.words.specs.Reads.{letter, alike};
-ghost use Rattle.words.specs.Repeats.{primitive, leads, copies as copiesOf, repeats};
+ghost use Rattle.words.specs.Repeats.{repeats};
 ghost use Rattle.words.specs.Answers.{claimedSays};
 ghost use Rattle.words.specs.Calls.{claimAnswer, motif as motifBytes, motifFrom};
-ghost use Rattle.call_claims.specs.Claims.{farthest, agreed, cuts};
+ghost use Rattle.call_claims.specs.Parts.{motifPart};
+use call_copies::copies_at;
+use call_copies::is_primitive;
 use read_edges::MOST;
 use words::Claimed;
 
-// what position i compares as: its byte, and 0 past the read's end. Position 0, which is none, is taken for 1, as in the definition
-fn letter_at(read: &[u8], i: usize) -> u8
-    ensures { λ r. ⌜ r ≡ letter (now (read .entry)) i ⌝ }
-{
-    let mut k = i;
-    if 0 < i {
-        k = i - 1;
-    }
-    if k < read.len() {
-        return read[k];
-    }
-    0
-}
-
-// are the w bytes from position i those d further? Once the first have left the read, so have the others, and all are 0
-fn same_stretch(read: &[u8], i: usize, w: usize, d: usize) -> bool
-    requires { ⌜ i + d ≤ farthest ⌝ }
-    ensures { λ r. ⌜ r ≡ alike (now (read .entry)) w i (i + d) ⌝ }
-{
-    let n = read.len();
-    let mut k = 0;
-    while k < w {
-        if n < i + k {
-            return true;
-        }
-        if letter_at(read, i + k) != letter_at(read, i + d + k) {
-            return false;
-        }
-        k += 1;
-    }
-    true
-}
-
-// how many of the w bytes from position i on are those d further, up to the first that is not. Both stretches lie in the read, so that
-// the bytes are read as they stand, in a quick loop; only the first can be that of position 0
-fn agree(read: &[u8], i: usize, w: usize, d: usize) -> usize
-    requires { ⌜ i + d + w ≤ length (now read) + 1 ⌝ }
-    ensures { λ r. ⌜ r ≡ agreed (now (read .entry)) w i (i + d) ⌝ }
-{
-    if w == 0 {
-        return 0;
-    }
-    let other = i + d;
-    if letter_at(read, i) != letter_at(read, other) {
-        return 0;
-    }
-    let mut k = 1;
-    while k < w {
-        if read[i + k - 1] != read[other + k - 1] {
-            return k;
-        }
-        k += 1;
-    }
-    k
-}
-
-// how often the motif of a start and a period stands in a row: once, and once more for each whole period of bytes that are those a
-// period further. No more than n are counted, as in the definition, which tells only where the start or the period is 0
-pub fn copies_at(read: &[u8], start: u32, period: u32) -> usize
-    ensures { λ r. ⌜ r ≡ copiesOf (now (read .entry)) start period ⌝ }
-{
-    let i = start as usize;
-    let p = period as usize;
-    let n = read.len();
-    if n + 1 < i + p {
-        return 0;
-    }
-    if p == 0 {
-        return n;
-    }
-    let e = agree(read, i, n + 1 - i - p, p) / p + 1;
-    if n < e {
-        return n;
-    }
-    e
-}
-
-// is the motif of p bytes from position i, which lies in the read, its first d bytes, written several times?
-fn cut(read: &[u8], i: usize, p: usize, d: usize) -> bool
-    requires { ⌜ (1 ≤ d) × (d < p) × (i + p ≤ length (now read) + 1) ⌝ }
-    ensures { λ r. ⌜ r ≡ cuts (now (read .entry)) i p d ⌝ }
-{
-    if p % d != 0 {
-        return false;
-    }
-    agree(read, i, p - d, d) == p - d
-}
-
-// is the motif of a start and a period no shorter string written twice or more? One that does not lie in the read is none
-pub fn is_primitive(read: &[u8], start: u32, period: u32) -> bool
-    ensures { λ r. ⌜ r ≡ primitive (now (read .entry)) start period ⌝ }
-{
-    let i = start as usize;
-    let p = period as usize;
-    if read.len() + 1 < i + p {
-        return true;
-    }
-    let mut d = 1;
-    while d < p {
-        if cut(read, i, p, d) {
-            return false;
-        }
-        d += 1;
-    }
-    true
-}
-
-// does a repeat of this start and period lead: is the start at most the period, or does the motif not stand a period before it?
-pub fn is_leading(read: &[u8], start: u32, period: u32) -> bool
-    ensures { λ r. ⌜ r ≡ leads (now (read .entry)) start period ⌝ }
-{
-    if start <= period {
-        return true;
-    }
-    let before = (start - period) as usize;
-    let p = period as usize;
-    !same_stretch(read, before, p, p)
+// A part of a read: where it starts, counted from 0, and how many bytes it has.
+#[repr(C)]
+pub struct Part {
+    pub from: usize,
+    pub count: usize,
 }
 
 // is (start, period, copies) a repeat of the read?
@@ -174,4 +60,17 @@ pub fn motif<'a>(read: &'a [u8], start: u32, period: u32, copies: u32) -> &'a [u
         return &read[from..to];
     }
     &read[..0]
+}
+
+// the same part by its place and its count, for those who are handed no part of a slice
+pub fn motif_part(read: &[u8], start: u32, period: u32, copies: u32) -> Part
+    ensures { λ r. ⌜ r ≡ motifPart (now (read .entry)) start period copies ⌝ }
+{
+    if let Claimed::Yes = claim(read, start, period, copies) {
+        return Part {
+            from: start as usize - 1,
+            count: period as usize,
+        };
+    }
+    Part { from: 0, count: 0 }
 }

@@ -9,11 +9,12 @@ use Rattle.words.specs.Rows.{rows}
 use Rattle.words.specs.Lists.{lineSize}
 use Rattle.words.specs.Answers.{Answer}
 use Rattle.text_answers.specs.Texts.{answerText, Printable}
-use Rattle.text_streams.specs.Outputs.{nextPlace, Adds}
-use Rattle.text_streams.specs.declared.Out.{Out}
-use Rattle.text_streams.proofs.Placing.{place-room}
-use Rattle.text_streams.proofs.Telling.{adds-text, adds-more}
-use Rattle.print_lines.specs.Output.{printed, Spacious, Heard, Collected}
+use Rattle.text_outs.specs.Outputs.{nextPlace, Adds}
+use Rattle.text_outs.specs.declared.Out.{Out}
+use Rattle.text_outs.proofs.Placing.{place-room}
+use Rattle.text_outs.proofs.Telling.{adds-text, adds-more}
+use Rattle.print_lines.specs.Output.{printed, Spacious, Collected}
+use Rattle.print_lines.proofs.Hearing.{Heard}
 
 module _ {line : List ℕ} {len : ℕ} {list buf : List ℕ} {s : Out} {a : Answer} {made : List ℕ} (h : Heard line len list a made)
     (ready : Spacious list buf (s .used)) (same : length made ≡ length list) {o : Out}

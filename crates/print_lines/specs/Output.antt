@@ -5,12 +5,11 @@ use mathlib.Core.List.{List}
 use lib.ListN.{length}
 use Rattle.words.specs.Rows.{rows}
 use Rattle.words.specs.Lists.{lineSize, lines, inMode}
-use Rattle.words.specs.Answers.{Answer}
-use Rattle.text_answers.specs.Texts.{lineTotal, answerText}
-use Rattle.text_streams.specs.Lines.{counted, Keeps}
-use Rattle.text_streams.specs.Heard.{heard}
-use Rattle.text_streams.specs.Outputs.{Adds}
-use Rattle.text_streams.specs.declared.Out.{Out}
+use Rattle.text_answers.specs.Texts.{answerText}
+use Rattle.text_lines.specs.Lines.{counted, Keeps}
+use Rattle.text_hears.specs.Heard.{heard}
+use Rattle.text_outs.specs.Outputs.{Adds}
+use Rattle.text_outs.specs.declared.Out.{Out}
 
 -- what is printed for a line x, whose list is made in mode 0 and has room for r lines
 unfoldable pub printed : ℕ → List ℕ → List ℕ
@@ -20,11 +19,6 @@ printed r x = answerText (heard r x) (counted (length x)) (lines x (inMode x 0))
 pub record Spacious (list buf : List ℕ) (used : ℕ) : Type 0 where
   pub room : 6 * length list + 64 ≤ length buf
   pub inside : used ≤ length buf
-
--- a line of len bytes was answered: the answer and the list that was made give its text
-pub record Heard (line : List ℕ) (len : ℕ) (list : List ℕ) (a : Answer) (made : List ℕ) : Type 0 where
-  pub lines : a .number ≡ 0 → lineSize * lineTotal a ≤ length list
-  pub text : (x : List ℕ) → Keeps x len line → answerText a len made ≡ printed (rows lineSize list) x
 
 -- the text of a line of len bytes was collected
 pub record Collected (line : List ℕ) (len : ℕ) (list buf : List ℕ) (o : Out) (buf′ : List ℕ) (r : Out) : Type 0 where

@@ -2,30 +2,16 @@
 // line's true length where it is over the limit. `answer` promises the text byte by byte (`printed`).
 ghost use Prim.Native.Nat.{_≤_};
 ghost use lib.ListN.{length};
-ghost use Rattle.words.specs.Answers.{listedSays};
-ghost use Rattle.print_lines.specs.Output.{Spacious, Heard, Collected};
-use read_edges::MOST;
-use text_streams::Out;
-use words::Listed;
-
-// what `list` answers for a line of `len` bytes: the bytes that are kept of a longer line are not the read, so it is refused here
-fn listed(line: &[u8], len: usize, list: &mut [u16]) -> Listed
-    requires { ⌜ 1001 ≤ length (now line) ⌝ }
-    ensures { λ r. ⌜ Heard (now (line .entry)) len (now (list .entry)) (listedSays r) (now (list .exit)) ⌝ }
-{
-    if MOST < len {
-        return Listed::TooLong(len);
-    }
-    call_lists::list(&line[..len], 0, list)
-}
+ghost use Rattle.print_lines.specs.Output.{Spacious, Collected};
+use text_outs::Out;
 
 // collects the text for one line
 pub fn answer(line: &[u8], len: usize, list: &mut [u16], buf: &mut [u8], start: Out) -> Out
     requires { ⌜ (1001 ≤ length (now line)) × Spacious (now list) (now buf) (start .used) ⌝ }
     ensures { λ r. ⌜ Collected (now (line .entry)) len (now (list .entry)) (now (buf .entry)) start (now (buf .exit)) r ⌝ }
 {
-    let found = listed(line, len, list);
-    let o = text_streams::room(buf, 6 * list.len() + 64, start);
+    let found = text_hears::hear(line, len, list);
+    let o = text_outs::room(buf, 6 * list.len() + 64, start);
     let at = o.used;
     let n = text_answers::write_answer(len, found, list, &mut buf[at..]);
     Out {

@@ -9,7 +9,7 @@ ghost use Rattle.text_streams.specs.Cuts.{Within};
 ghost use Rattle.text_streams.specs.Runs.{Advances, Stopped, Ran};
 ghost use Rattle.print_lines.specs.Output.{printed, Spacious};
 use print_lines::answer;
-use text_streams::Out;
+use text_outs::Out;
 use text_streams::State;
 
 // one turn: the line that it found is answered
@@ -29,13 +29,13 @@ fn step(input: &mut [u8], line: &mut [u8], list: &mut [u16], buf: &mut [u8], s: 
     after
 }
 
-// All lines. Nothing says that the input ends, so the loop counts its turns down, from a number that no run uses up.
+// all lines, turn by turn
 fn all(input: &mut [u8], line: &mut [u8], list: &mut [u16], buf: &mut [u8]) -> Out
     requires { ⌜ (1001 ≤ length (now line)) × Spacious (now list) (now buf) 0 ⌝ }
     ensures { λ r. ⌜ (r .used ≤ length (now (buf .exit))) × Stopped (printed (rows lineSize (now (list .entry)))) (now (buf .exit)) r ⌝ }
 {
     let mut s = text_streams::begin();
-    let mut turns = u64::MAX;
+    let mut turns = text_streams::most_turns();
     while turns > 0 {
         s = step(input, line, list, buf, s);
         if !text_streams::goes_on(s) {
@@ -52,5 +52,5 @@ pub fn run(input: &mut [u8], line: &mut [u8], list: &mut [u16], buf: &mut [u8])
     ensures { λ _. ⌜ Ran (printed 10000) ⌝ }
 {
     let o = all(input, line, list, buf);
-    text_streams::flush(buf, o);
+    text_outs::flush(buf, o);
 }

@@ -5,60 +5,11 @@
 ghost use mathlib.Core.Path.{_≡_};
 ghost use Rattle.words.specs.Calls.{listAnswer, listLeaves, tableAnswer, tableLeaves, logAnswer, logLeaves};
 ghost use Rattle.words.specs.Calls.{replayAnswer, replayLeaves, claimAnswer, readerTakes};
-ghost use Rattle.call_answers.specs.Plain.{plain};
-ghost use Rattle.sorunggyeo.specs.Plain.{motifPart, plainMove};
+ghost use Rattle.call_answers.specs.Plain.{plain, plainMove};
+ghost use Rattle.call_claims.specs.Parts.{motifPart};
 use call_answers::Answer;
-use words::Claimed;
-use words::Entry;
-use words::Taken;
-
-// A part of a read: where it starts, counted from 0, and how many bytes it has.
-#[repr(C)]
-pub struct Part {
-    pub from: usize,
-    pub count: usize,
-}
-
-// The next entry of a log, if one was found, and the place after it.
-#[repr(C)]
-pub struct Move {
-    pub at: usize,
-    pub found: u16,
-    pub width: u16,
-    pub name: u16,
-    pub position: u16,
-}
-
-// ---- an entry in numbers
-
-fn taken(t: Taken) -> Move
-    ensures { λ r. ⌜ r ≡ plainMove t ⌝ }
-{
-    let at = t.at;
-    let e = t.entry;
-    match e {
-        Entry::Move {
-            width,
-            name,
-            position,
-        } => Move {
-            at,
-            found: 1,
-            width,
-            name,
-            position,
-        },
-        Entry::Ended => Move {
-            at,
-            found: 0,
-            width: 0,
-            name: 0,
-            position: 0,
-        },
-    }
-}
-
-// ---- the calls
+use call_answers::Move;
+use call_claims::Part;
 
 #[no_mangle]
 pub extern "C" fn sorunggyeo_list(read: &[u8], mode: u32, list: &mut [u16]) -> Answer
@@ -109,13 +60,7 @@ pub extern "C" fn sorunggyeo_claim(read: &[u8], start: u32, period: u32, copies:
 pub extern "C" fn sorunggyeo_motif(read: &[u8], start: u32, period: u32, copies: u32) -> Part
     ensures { λ r. ⌜ r ≡ motifPart (now (read .entry)) start period copies ⌝ }
 {
-    if let Claimed::Yes = call_claims::claim(read, start, period, copies) {
-        return Part {
-            from: start as usize - 1,
-            count: period as usize,
-        };
-    }
-    Part { from: 0, count: 0 }
+    call_claims::motif_part(read, start, period, copies)
 }
 
 // One call of the log reader, on the log and the place reached.
@@ -123,5 +68,5 @@ pub extern "C" fn sorunggyeo_motif(read: &[u8], start: u32, period: u32, copies:
 pub extern "C" fn sorunggyeo_next(log: &[u16], at: usize) -> Move
     ensures { λ r. ⌜ r ≡ plainMove (readerTakes (now (log .entry)) at) ⌝ }
 {
-    taken(call_reader::take_at(log, at))
+    call_answers::taken(call_reader::take_at(log, at))
 }

@@ -11,11 +11,11 @@ use lib.Dec.{ltb}
 use Rattle.words.proofs.Tests.{clash}
 use Rattle.text_pipes.proofs.Accounts.{clamped-inside}
 use Rattle.io.specs.Counts.{clamped}
-use Rattle.text_streams.specs.Lines.{lastLine, counted, Keeps}
+use Rattle.text_lines.specs.Lines.{lastLine, counted, Keeps}
 use Rattle.text_streams.specs.Cuts.{Within, stopped, Cut, Filled, Over, Broken, Spent, Turned}
-use Rattle.text_streams.specs.Outputs.{Adds}
+use Rattle.text_outs.specs.Outputs.{Adds}
 use Rattle.text_streams.specs.Runs.{going, Stands, Stopped, Advances}
-use Rattle.text_streams.specs.declared.Out.{Out}
+use Rattle.text_outs.specs.declared.Out.{Out}
 use Rattle.text_streams.specs.declared.State.{State}
 use Rattle.text_streams.specs.declared.Next.{Next}
 use Rattle.text_streams.proofs.Pending.{cut-within}

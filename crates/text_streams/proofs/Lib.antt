@@ -1,13 +1,5 @@
-pub mod Newlines
-pub mod Keeping
-pub mod Plain
-pub mod Parts
-pub mod Placing
-pub mod Telling
 pub mod Turns
-pub mod Lines
 pub mod Pending
 pub mod Runs
 pub mod Advancing
-pub mod Hearing
 pub mod Settled

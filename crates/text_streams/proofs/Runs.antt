@@ -12,18 +12,18 @@ use Rattle.io.specs.Counts.{clamped}
 use Rattle.text_puts.specs.Numbers.{newline}
 use Rattle.text_pipes.specs.Accounts.{Call, moved, Read, Ended, Unread}
 use Rattle.text_pipes.proofs.Accounts.{account-none, account-call, account-more}
-use Rattle.text_streams.specs.Lines.{lastLine, linesOf, Plain, Keeps}
+use Rattle.text_lines.specs.Lines.{lastLine, linesOf, Plain, Keeps}
 use Rattle.text_streams.specs.Cuts.{chunkOf, Within, pending, endOf, restOf, filled}
-use Rattle.text_streams.specs.Outputs.{Begun, Told, Adds}
+use Rattle.text_outs.specs.Outputs.{Begun, Told, Adds}
 use Rattle.text_streams.specs.Runs.{texts, beginning, Stands, Stopped, Ran}
-use Rattle.text_streams.specs.declared.Out.{Out}
+use Rattle.text_outs.specs.declared.Out.{Out}
 use Rattle.text_streams.specs.declared.State.{State}
 use Rattle.text_streams.specs.declared.Source.{Source}
-use Rattle.text_streams.proofs.Keeping.{keeps-none}
-use Rattle.text_streams.proofs.Plain.{plain-none, plain-more}
-use Rattle.text_streams.proofs.Lines.{lines-plain, lines-cut}
+use Rattle.text_lines.proofs.Keeping.{keeps-none}
+use Rattle.text_lines.proofs.Plain.{plain-none, plain-more}
+use Rattle.text_lines.proofs.Lines.{lines-plain, lines-cut}
 use Rattle.text_streams.proofs.Pending.{rest-plain, pending-cut, pending-plain}
-use Rattle.text_streams.proofs.Telling.{told-none}
+use Rattle.text_outs.proofs.Telling.{told-none}
 
 -- the texts of lines and of one line more
 pub texts-more : (text : List ℕ → List ℕ) (xs : List (List ℕ)) (x : List ℕ) → texts text (xs ++ x ∷ []) ≡ texts text xs ++ text x

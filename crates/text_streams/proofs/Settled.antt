@@ -7,14 +7,12 @@ use mathlib.Core.Logic.{⊎-elim}
 use mathlib.Core.List.{List}
 use native.Mathlib.Omega.{arith}
 use denote.Ref.{now}
-use Rattle.text_streams.specs.Lines.{Keeps}
+use Rattle.text_lines.specs.Lines.{Keeps}
 use Rattle.text_streams.specs.Cuts.{endOf, Turned}
 use Rattle.text_streams.specs.declared.State.{State}
 use Rattle.text_streams.specs.declared.Next.{Next}
 use Rattle.text_streams.proofs.begin.Reads as begin
 use Rattle.text_streams.proofs.goes_on.Reads as goes-on
-use Rattle.text_streams.proofs.flush.Reads as flush
-use Rattle.text_streams.proofs.room.Reads as room
 use Rattle.text_streams.proofs.turn.Reads as turn
 
 pub begin-settled : (κs : _) (a : _) (x y : _) (e f : _) → begin.Learnt κs a x e → begin.Learnt κs a y f → x ≡ y
@@ -22,13 +20,6 @@ begin-settled κs a x y e f p q = p ∙ sym q
 
 pub goes-on-settled : (κs : _) (a : _) (x y : _) (e f : _) → goes-on.Learnt κs a x e → goes-on.Learnt κs a y f → x ≡ y
 goes-on-settled κs a x y e f p q = p ∙ sym q
-
--- where the next text goes; whether a write failed is the write call's word
-pub flush-settled : (κs : _) (a : _) (x y : _) (e f : _) → flush.Learnt κs a x e → flush.Learnt κs a y f → x .used ≡ y .used
-flush-settled κs a x y e f p q = p .0 ∙ sym (q .0)
-
-pub room-settled : (κs : _) (a : _) (x y : _) (e f : _) → room.Learnt κs a x e → room.Learnt κs a y f → x .used ≡ y .used
-room-settled κs a x y e f p q = p .0 ∙ sym (q .0)
 
 -- the place behind a newline, by the line's length
 abbrev behind : List ℕ → State → ℕ → Next

@@ -9,12 +9,13 @@ use borrow.Author.Tests.{ltb-true, ltb-false}
 use lib.ListN.{length, take}
 use lib.Dec.{ltb}
 use lib.Seq.{length-take-le}
-use Rattle.text_streams.specs.Lines.{Keeps}
-use Rattle.text_streams.specs.Outputs.{Adds}
-use Rattle.text_streams.specs.Cuts.{chunkOf, Within, Taken, endOf, restOf, Waited, Turned}
+use Rattle.text_lines.specs.Lines.{Keeps}
+use Rattle.text_outs.specs.Outputs.{Adds}
+use Rattle.text_streams.specs.Cuts.{chunkOf, Within, endOf, restOf, Waited, Turned}
+use Rattle.text_lines.specs.Parts.{Taken}
 use Rattle.text_streams.specs.declared.Source.{Source}
-use Rattle.text_streams.specs.declared.Part.{Part}
-use Rattle.text_streams.specs.declared.Out.{Out}
+use Rattle.text_lines.specs.declared.Part.{Part}
+use Rattle.text_outs.specs.declared.Out.{Out}
 use Rattle.text_streams.specs.declared.State.{State}
 use Rattle.text_streams.specs.declared.Next.{Next}
 

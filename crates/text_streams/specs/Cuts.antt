@@ -1,5 +1,5 @@
--- What each step of the cutting leaves: a part taken, a read call waited for, and a turn.
-use Prim.Native.Nat.{ℕ, _+_, _≤_, _<_, min}
+-- What each step leaves: a read call waited for, and a turn.
+use Prim.Native.Nat.{ℕ, _+_, _≤_, _<_}
 use mathlib.Core.Path.{_≡_}
 use mathlib.Core.Logic.{_⊎_}
 use mathlib.Core.Bool.{Bool, true, false}
@@ -9,11 +9,10 @@ use lib.Dec.{ltb}
 use lib.IntN.{ℤ}
 use Rattle.io.specs.Counts.{clamped}
 use Rattle.text_pipes.specs.Accounts.{Read, Ended, Unread}
-use Rattle.text_streams.specs.Lines.{lineEnd, lineRest, Keeps}
-use Rattle.text_streams.specs.Outputs.{Adds}
+use Rattle.text_lines.specs.Lines.{lineEnd, lineRest, Keeps}
+use Rattle.text_outs.specs.Outputs.{Adds}
 use Rattle.text_streams.specs.declared.Source.{Source}
-use Rattle.text_streams.specs.declared.Part.{Part}
-use Rattle.text_streams.specs.declared.Out.{Out}
+use Rattle.text_outs.specs.declared.Out.{Out}
 use Rattle.text_streams.specs.declared.State.{State}
 use Rattle.text_streams.specs.declared.Next.{Next}
 
@@ -29,12 +28,6 @@ pending input s = drop (s .from) (chunkOf input s)
 pub record Within (input : List ℕ) (s : Source) : Type 0 where
   pub order : s .from ≤ s .end
   pub inside : s .end ≤ length input
-
--- the part of a chunk from a place on, up to the next newline or its end, was taken behind a line of len bytes
-pub record Taken (chunk : List ℕ) (from : ℕ) (line : List ℕ) (len : ℕ) (line′ : List ℕ) (p : Part) : Type 0 where
-  pub place : p .next ≡ min (lineEnd chunk from + 1) (length chunk)
-  pub ended : p .ended ≡ ltb (lineEnd chunk from) (length chunk)
-  pub keeps : (x : List ℕ) → Keeps x len line → Keeps (x ++ lineRest chunk from) (p .len) line′
 
 -- the place of the first newline among the bytes that are not taken yet, or their end
 unfoldable pub endOf : List ℕ → Source → ℕ

@@ -1,5 +1,2 @@
-pub mod Lines
 pub mod Cuts
-pub mod Outputs
 pub mod Runs
-pub mod Heard

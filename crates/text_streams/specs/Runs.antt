@@ -6,10 +6,10 @@ use mathlib.Core.Bool.{Bool, true, false, _&&_}
 use mathlib.Core.List.{List, [], _∷_, _++_}
 use lib.ListN.{length}
 use Rattle.text_pipes.specs.Accounts.{Account, Read, Write, Ended, Unread, Stuck}
-use Rattle.text_streams.specs.Lines.{linesOf, Plain, Keeps}
+use Rattle.text_lines.specs.Lines.{linesOf, Plain, Keeps}
 use Rattle.text_streams.specs.Cuts.{Within, pending}
-use Rattle.text_streams.specs.Outputs.{Begun, Told}
-use Rattle.text_streams.specs.declared.Out.{Out}
+use Rattle.text_outs.specs.Outputs.{Begun, Told}
+use Rattle.text_outs.specs.declared.Out.{Out}
 use Rattle.text_streams.specs.declared.State.{State}
 
 -- the texts of lines, one after another

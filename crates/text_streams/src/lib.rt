@@ -1,55 +1,15 @@
 // Standard input cut into lines, and standard output collected into large writes. A turn takes the bytes that are there up to the next newline
 // or, where there is none, writes out what is collected and makes one read call: a program that waits for more has said all that it knows.
-// A line may be longer than memory: as many of its bytes as the line buffer has room for are kept, and the rest is counted.
 // The contracts speak of all that read calls gave and write calls took (`text_pipes`): specs/Runs.antt says what a program then owes.
 ghost use mathlib.Core.Path.{_≡_};
-ghost use Prim.Native.Nat.{_+_, _≤_};
+ghost use Prim.Native.Nat.{_-_, _^_, _≤_};
 ghost use lib.ListN.{length};
-ghost use mathlib.Core.List.{[]};
-ghost use Rattle.text_streams.specs.Lines.{lineEnd, kept, counted};
-ghost use Rattle.text_streams.specs.Cuts.{Within, Taken, stopped, Waited, Turned};
-ghost use Rattle.text_streams.specs.Outputs.{nextPlace, Adds};
+ghost use Rattle.text_streams.specs.Cuts.{Within, stopped, Waited, Turned};
 ghost use Rattle.text_streams.specs.Runs.{beginning, going};
 use libc::STDIN_FILENO;
-
-// ---- texts out
-
-// what is collected: `used` bytes of the output buffer; `ok` is false once a write failed
-pub struct Out {
-    pub used: usize,
-    pub ok: bool,
-}
-
-// writes out what is collected; a failed write is told, and after it nothing is written
-pub fn flush(buf: &[u8], o: Out) -> Out
-    requires { ⌜ o .used ≤ length (now buf) ⌝ }
-    ensures { λ r. ⌜ (r .used ≡ 0) × Adds (now (buf .entry)) o [] (now (buf .entry)) r ⌝ }
-{
-    let used = o.used;
-    if !o.ok {
-        return Out { used: 0, ok: false };
-    }
-    let done = text_pipes::hand(&buf[..used]);
-    if done < used {
-        text_pipes::tell_unwritten(done, used);
-        return Out { used: 0, ok: false };
-    }
-    Out { used: 0, ok: true }
-}
-
-// makes room for a text of at most `need` bytes: where it does not fit behind what is collected, that is written out
-pub fn room(buf: &[u8], need: usize, o: Out) -> Out
-    requires { ⌜ o .used ≤ length (now buf) ⌝ }
-    ensures { λ r. ⌜ (r .used ≡ nextPlace need (length (now (buf .entry))) (o .used)) × Adds (now (buf .entry)) o [] (now (buf .entry)) r ⌝ }
-{
-    let used = o.used;
-    if need <= buf.len() - used {
-        return o;
-    }
-    flush(buf, o)
-}
-
-// ---- lines in
+use text_lines::take_part;
+use text_outs::Out;
+use text_outs::flush;
 
 // where the input goes on: the bytes of the last read call from `from` to `end` are not taken yet, and `len` bytes of a line came before them;
 // `more` is false once the input has ended, or a read or a write failed
@@ -95,71 +55,11 @@ pub fn begin() -> State
     }
 }
 
-// the place of the first newline from a place on, or the length
-fn newline(chunk: &[u8], from: usize) -> usize
-    requires { ⌜ from ≤ length (now chunk) ⌝ }
-    ensures { λ r. ⌜ r ≡ lineEnd (now (chunk .entry)) from ⌝ }
+// Nothing says that the input ends, so a program counts its turns down from here: no run uses them up.
+pub fn most_turns() -> u64
+    ensures { λ r. ⌜ r ≡ 2 ^ 64 - 1 ⌝ }
 {
-    let mut i = from;
-    while i < chunk.len() {
-        if chunk[i] == b'\n' {
-            return i;
-        }
-        i += 1;
-    }
-    i
-}
-
-// keeps the bytes of a part, as far as the line has room
-fn keep(part: &[u8], line: &mut [u8], len: usize)
-    ensures { λ _. ⌜ now (line .exit) ≡ kept (now (line .entry)) len (now (part .entry)) ⌝ }
-{
-    let mut i = 0;
-    let mut at = len;
-    while i < part.len() && at < line.len() {
-        line[at] = part[i];
-        i += 1;
-        at += 1;
-    }
-}
-
-// a length and more, as far as it can be counted
-fn longer(len: usize, more: usize) -> usize
-    ensures { λ r. ⌜ r ≡ counted (len + more) ⌝ }
-{
-    if more <= usize::MAX - len {
-        return len + more;
-    }
-    usize::MAX
-}
-
-// what a part of a chunk leaves: the line's length with it, where the chunk goes on, and whether a newline ended it
-struct Part {
-    len: usize,
-    next: usize,
-    ended: bool,
-}
-
-// takes the part of a chunk from a place on, up to the next newline or to its end, behind a line of `len` bytes
-fn take_part(chunk: &[u8], from: usize, line: &mut [u8], len: usize) -> Part
-    requires { ⌜ from ≤ length (now chunk) ⌝ }
-    ensures { λ r. ⌜ Taken (now (chunk .entry)) from (now (line .entry)) len (now (line .exit)) r ⌝ }
-{
-    let e = newline(chunk, from);
-    keep(&chunk[from..e], line, len);
-    let len = longer(len, e - from);
-    if e < chunk.len() {
-        return Part {
-            len,
-            next: e + 1,
-            ended: true,
-        };
-    }
-    Part {
-        len,
-        next: e,
-        ended: false,
-    }
+    u64::MAX
 }
 
 // no line follows: the input has ended, or a read or a write failed

@@ -1,57 +1,46 @@
 -- `bench_reads::show` meets its contract: a success is shown and any other answer is a refusal. Assumes nothing.
 use Prim.Native.Nat.{ℕ}
-use mathlib.Core.Path.{sym, _∙_}
+use mathlib.Core.Path.{sym}
 use native.Mathlib.Omega.{arith}
 use lib.ListN.{length-replicate}
+use lib.Seq.{length-take-le}
 use borrow.Author.Needs.{needs}
-use Rattle.bench_reads.proofs.Made.{list-room, list-told, list-few, list-inside, list-front, view-read, view-refused}
+use Rattle.bench_reads.proofs.Made.{list-room, list-told, line-few, list-few, list-inside, list-front, viewed-read, viewed-refused}
 use Rattle.bench_reads.proofs.show.Statement.{statement}
 use Rattle.bench_reads.proofs.show.Tie as tie
 
-slice-aggregate-list : tie.Need-slice-aggregate-list
-slice-aggregate-list c = sym (length-replicate {A = ℕ} 30000 0)
-
-list-requires : tie.Need-list-requires
-list-requires c κs = search needs
-
-listed-requires : tie.Need-listed-requires
-listed-requires c κs = search needs
+slice-aggregate-hear : tie.Need-slice-aggregate-hear
+slice-aggregate-hear c = sym (length-replicate {A = ℕ} 30000 0)
 
 slice-aggregate-show-read : tie.Need-slice-aggregate-show-read
-slice-aggregate-show-read c = search needs
+slice-aggregate-show-read c =
+    let u = c .before in
+    let v = u .before .before in
+    let w = v .before .before in
+    let s = w .before .before .before .before in
+    sym (length-take-le _ _ (omega (arith, line-few (w .hear .ensures) (list-told _ (v .listed .ensures)) (omega (arith, s .pre .0)) (omega arith) (u .if1 .taken))))
 
 show-read-requires : tie.Need-show-read-requires
 show-read-requires c κs =
-    let u = c .before .before in
+    let u = c .before .before .before in
     let v = u .before .before in
     let w = v .before .before in
-    let s = w .before .before .before .before in (
-      list-few _ _ (sym (w .list2 .ensures .0) ∙ list-told _ (v .listed .ensures)) (u .if1 .taken),
-      list-inside _ _ (sym (w .list2 .ensures .0) ∙ list-told _ (v .listed .ensures)) (u .if1 .taken) (w .list2 .ensures .1),
-      list-front _ _ (sym (w .list2 .ensures .0) ∙ list-told _ (v .listed .ensures)) (u .if1 .taken) (w .list2 .ensures .1),
-      s .pre,
+    let s = w .before .before .before .before in
+    let told = list-told _ (v .listed .ensures) in (
+      list-few (w .hear .ensures) told (omega (arith, s .pre .0)) (omega arith) (u .if1 .taken),
+      list-inside (w .hear .ensures) told (omega (arith, s .pre .0)) (omega arith) (u .if1 .taken),
+      list-front (w .hear .ensures) told (omega (arith, s .pre .0)) (omega arith) (u .if1 .taken),
+      s .pre .1,
     )
-
-same-length : tie.Need-same-length
-same-length c = search needs
 
 returns : tie.Need-returns
 returns c =
     let t = c .before .before in
-    let u = t .before .before .before in
+    let u = t .before .before .before .before in
     let v = u .before .before in
     let w = v .before .before in
     let s = w .before .before .before .before in
-    rw (view-read (s .args .read .now) _ (sym (w .list2 .ensures .0) ∙ list-told _ (v .listed .ensures)) (omega arith) list-room (u .if1 .taken)) (t .show-read .ensures)
-
-cast-collect-refusal : tie.Need-cast-collect-refusal
-cast-collect-refusal c = search needs
-
-collect-refusal-requires : tie.Need-collect-refusal-requires
-collect-refusal-requires c κs = search needs
-
-same-length-2 : tie.Need-same-length-2
-same-length-2 c = search needs
+    viewed-read (w .hear .ensures) (list-told _ (v .listed .ensures)) list-room (u .if1 .taken) (omega (arith, s .pre .0)) (omega arith) (t .show-read .ensures)
 
 returns-2 : tie.Need-returns-2
 returns-2 c =
@@ -59,21 +48,21 @@ returns-2 c =
     let u = t .before .before .before in
     let v = u .before .before in
     let w = v .before .before in
-    let s = w .before .before .before .before in
-    rw (view-refused (s .args .read .now) _ (sym (w .list2 .ensures .0) ∙ list-told _ (v .listed .ensures)) (omega arith) list-room (u .if1 .left)) (t .collect-refusal .ensures)
+    viewed-refused (w .hear .ensures) (list-told _ (v .listed .ensures)) list-room (u .if1 .left) (t .collect-refusal .ensures)
 
 pub show-spec : {M : Type 1} → statement M
 show-spec =
     tie.close
     (tie.spec
-    slice-aggregate-list
-    list-requires
-    listed-requires
+    slice-aggregate-hear
+    (λ c κs. search needs)
+    (λ c κs. search needs)
     slice-aggregate-show-read
+    (λ c. search needs)
     show-read-requires
-    same-length
+    (λ c. search needs)
     returns
-    cast-collect-refusal
-    collect-refusal-requires
-    same-length-2
+    (λ c. search needs)
+    (λ c κs. search needs)
+    (λ c. search needs)
     returns-2)

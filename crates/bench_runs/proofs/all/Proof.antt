@@ -27,8 +27,9 @@ begin-requires c κs = search needs
 
 loop-holds : tie.Need-loop-holds Inv-loop μ-loop
 loop-holds c =
-    let e = c .begin .ensures in
-    rw e (
+    let e = c .before .begin .ensures in
+    let most = c .most-turns .ensures in
+    rw (most, e) (
       refl,
       refl,
       refl,
@@ -38,10 +39,13 @@ loop-holds c =
       stands-first _ _ _ _,
     )
 
+most-turns-requires : tie.Need-most-turns-requires Inv-loop μ-loop
+most-turns-requires c κs = search needs
+
 step-requires : tie.Need-step-requires Inv-loop μ-loop
 step-requires c κs =
     let u = c .before .before .before .before in
-    let s = u .before .before .before .before .before in
+    let s = u .before .before .before .before .before .before in
     let i = u .loop .inv in
     (i .3, omega (arith, s .pre .0, i .1), record { room = omega (arith, s .pre .1 .room, i .2); inside = i .4 })
 
@@ -104,6 +108,7 @@ all-spec =
     Inv-loop
     μ-loop
     begin-requires
+    most-turns-requires
     loop-holds
     step-requires
     goes-on-requires

@@ -9,8 +9,8 @@ use Rattle.bench_runs.proofs.step.Tie as tie
 turn-requires : tie.Need-turn-requires
 turn-requires c κs = let s = c .before .before .before .before .before .before in (s .pre .0, s .pre .2 .inside)
 
-answer-requires : tie.Need-answer-requires
-answer-requires c κs =
+show-requires : tie.Need-show-requires
+show-requires c κs =
     let t = c .before .before .before .before .before .before .before .before .before .before in
     let s = t .before .before .before .before .before .before .before in (
       omega (arith, s .pre .1, t .turn .kept .1 .0),
@@ -31,8 +31,8 @@ returns c =
     let a = c .before .before in
     let t = a .before .before .before .before .before .before .before .before .before .before .before in
     let s = t .before .before .before .before .before .before .before in
-    advances-found _ _ _ _ _ (s .pre .0) (t .turn .ensures) (a .before .before .before .before .before .if1 .taken) (a .answer .ensures .inside)
-    (λ x k. a .answer .ensures .text x k .adds)
+    advances-found _ _ _ _ _ (s .pre .0) (t .turn .ensures) (a .before .before .before .before .before .if1 .taken) (a .show .ensures .inside)
+    (λ x k. a .show .ensures .text x k .adds)
 
 same-length-4 : tie.Need-same-length-4
 same-length-4 c = search needs
@@ -53,7 +53,7 @@ step-spec =
     tie.close
     (tie.spec
     turn-requires
-    answer-requires
+    show-requires
     same-length
     same-length-2
     same-length-3

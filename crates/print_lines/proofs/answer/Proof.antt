@@ -1,12 +1,13 @@
 -- `print_lines::answer` meets its contract: the text is written to the rest of the buffer, from its place on. Assumes nothing.
 use native.Mathlib.Omega.{arith}
+use Rattle.print_lines.proofs.Hearing.{heard}
 use Rattle.print_lines.proofs.Collecting.{place-inside, printable, text-inside, collected}
 use borrow.Author.Needs.{needs}
 use Rattle.print_lines.proofs.answer.Statement.{statement}
 use Rattle.print_lines.proofs.answer.Tie as tie
 
-listed-requires : tie.Need-listed-requires
-listed-requires c κs = search needs
+hear-requires : tie.Need-hear-requires
+hear-requires c κs = search needs
 
 mul-room : tie.Need-mul-room
 mul-room c = search needs
@@ -22,14 +23,14 @@ sub-write-answer c =
     let r = c .before in
     let a = r .before .before .before .before in
     let s = a .before .before .before .before .before in
-    omega (arith, place-inside (a .listed .ensures) (s .pre .1) (a .listed .kept .1 .1 .0) (r .room .ensures))
+    omega (arith, place-inside (heard (omega (arith, s .pre .0)) (omega arith) (a .hear .ensures)) (s .pre .1) (a .hear .kept .1 .1 .0) (r .room .ensures))
 
 part-write-answer-start : tie.Need-part-write-answer-start
 part-write-answer-start c =
     let r = c .before in
     let a = r .before .before .before .before in
     let s = a .before .before .before .before .before in
-    omega (arith, place-inside (a .listed .ensures) (s .pre .1) (a .listed .kept .1 .1 .0) (r .room .ensures))
+    omega (arith, place-inside (heard (omega (arith, s .pre .0)) (omega arith) (a .hear .ensures)) (s .pre .1) (a .hear .kept .1 .1 .0) (r .room .ensures))
 
 part-write-answer-end : tie.Need-part-write-answer-end
 part-write-answer-end c = search needs
@@ -39,7 +40,7 @@ write-answer-requires c κs =
     let r = c .before .before in
     let a = r .before .before .before .before in
     let s = a .before .before .before .before .before in
-    printable (a .listed .ensures) (s .pre .1) (a .listed .kept .1 .1 .0) (r .room .ensures)
+    printable (heard (omega (arith, s .pre .0)) (omega arith) (a .hear .ensures)) (s .pre .1) (a .hear .kept .1 .1 .0) (r .room .ensures)
 
 add-t16 : tie.Need-add-t16
 add-t16 c =
@@ -47,7 +48,7 @@ add-t16 c =
     let a = r .before .before .before .before in
     let s = a .before .before .before .before .before in
     let w = c .before .before .write-answer in
-    let q = text-inside (a .listed .ensures) (s .pre .1) (a .listed .kept .1 .1 .0) (r .room .ensures) (w .ensures) (w .kept .1 .1 .1 .0) in
+    let q = text-inside (heard (omega (arith, s .pre .0)) (omega arith) (a .hear .ensures)) (s .pre .1) (a .hear .kept .1 .1 .0) (r .room .ensures) (w .ensures) (w .kept .1 .1 .1 .0) in
     omega (arith, s .good .1 .1 .1 .0 .0)
 
 same-length : tie.Need-same-length
@@ -62,13 +63,13 @@ returns c =
     let a = r .before .before .before .before in
     let s = a .before .before .before .before .before in
     let w = c .before .before .write-answer in
-    collected (a .listed .ensures) (s .pre .1) (a .listed .kept .1 .1 .0) (r .room .ensures) (w .ensures) (w .kept .1 .1 .1 .0) _
+    collected (heard (omega (arith, s .pre .0)) (omega arith) (a .hear .ensures)) (s .pre .1) (a .hear .kept .1 .1 .0) (r .room .ensures) (w .ensures) (w .kept .1 .1 .1 .0) _
 
 pub answer-spec : {M : Type 1} → statement M
 answer-spec =
     tie.close
     (tie.spec
-    listed-requires
+    hear-requires
     mul-room
     add-room
     room-requires

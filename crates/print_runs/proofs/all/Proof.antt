@@ -32,8 +32,12 @@ begin-requires c κs = search needs
 
 loop-holds : tie.Need-loop-holds Inv-loop μ-loop
 loop-holds c =
-    let e = c .begin .ensures in
-    rw e (refl, refl, refl, refl, record { order = omega arith; inside = omega arith }, omega arith, omega arith, stands-first _ _ _ _)
+    let e = c .before .begin .ensures in
+    let most = c .most-turns .ensures in
+    rw (most, e) (refl, refl, refl, refl, record { order = omega arith; inside = omega arith }, omega arith, omega arith, stands-first _ _ _ _)
+
+most-turns-requires : tie.Need-most-turns-requires Inv-loop μ-loop
+most-turns-requires c κs = search needs
 
 step-requires : tie.Need-step-requires Inv-loop μ-loop
 step-requires c κs = search needs
@@ -57,7 +61,7 @@ returns : tie.Need-returns Inv-loop μ-loop
 returns c =
     let t = c .before .before .before .before .before .before .before .before .before .before .before in
     let l = t .before .before .before .before .before .before .loop in
-    let s = rw (same-room (l .list) (t .before .before .before .before .before .before .before .before .before .before .before .before .args .list .now) (l .inv .2)) at (t .step .ensures) in
+    let s = rw (same-room (l .list) (t .before .before .before .before .before .before .before .before .before .before .before .before .before .args .list .now) (l .inv .2)) at (t .step .ensures) in
     (s .inside, s .stop _ (l .inv .7) (sym (c .before .before .goes-on .ensures) ∙ not-true _ (c .before .if1 .taken)))
 
 sub-turns : tie.Need-sub-turns Inv-loop μ-loop
@@ -70,7 +74,7 @@ loop-again : tie.Need-loop-again Inv-loop μ-loop
 loop-again c =
     let t = c .before .before .before .before .before .before .before .before .before .before in
     let l = t .before .before .before .before .before .before .loop in
-    let s = rw (same-room (l .list) (t .before .before .before .before .before .before .before .before .before .before .before .before .args .list .now) (l .inv .2)) at (t .step .ensures) in
+    let s = rw (same-room (l .list) (t .before .before .before .before .before .before .before .before .before .before .before .before .before .args .list .now) (l .inv .2)) at (t .step .ensures) in
     let k = t .step .kept in (
       k .0 ∙ l .inv .0,
       k .1 .0 ∙ l .inv .1,
@@ -104,6 +108,7 @@ all-spec =
     Inv-loop
     μ-loop
     begin-requires
+    most-turns-requires
     loop-holds
     step-requires
     goes-on-requires

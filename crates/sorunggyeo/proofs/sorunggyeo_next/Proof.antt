@@ -1,7 +1,7 @@
 -- `sorunggyeo::sorunggyeo_next` meets its contract: that of the call, in numbers. Assumes nothing.
 use mathlib.Core.Path.{ap, _∙_}
 use borrow.Author.Needs.{needs}
-use Rattle.sorunggyeo.specs.Plain.{plainMove}
+use Rattle.call_answers.specs.Plain.{plainMove}
 use Rattle.sorunggyeo.proofs.sorunggyeo_next.Statement.{statement}
 use Rattle.sorunggyeo.proofs.sorunggyeo_next.Tie as tie
 

@@ -1,0 +1,8 @@
+pub mod Refuted
+pub mod Letters
+pub mod Compared
+pub mod Stretched
+pub mod Counted
+pub mod Agreed
+pub mod Shorter
+pub mod Settled
