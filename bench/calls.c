@@ -9,7 +9,8 @@
 enum { MOST = SORUNGGYEO_MOST, ALL = 3 * MOST * MOST / 2 };
 static uint8_t in[1 << 20];
 static uint16_t out[3 * 10000], log_[ALL];
-static size_t numbers;
+static uint64_t beside[4 * SORUNGGYEO_PERIODS];
+static size_t numbers, lines, entries;
 
 /* the read's own log */
 static void own(const uint8_t *x, size_t n) { numbers = 3 * sorunggyeo_log(x, n, log_, ALL).value; }
@@ -24,14 +25,26 @@ static void all(const uint8_t *x, size_t n)
             log_[numbers] = w, log_[numbers + 1] = 1, log_[numbers + 2] = i;
 }
 
+/* the list, and how many entries its index has */
+static void lined(const uint8_t *x, size_t n)
+{
+    sorunggyeo_answer a = sorunggyeo_list_index(x, n, 0, out, 3 * 10000, beside, 4 * SORUNGGYEO_PERIODS);
+    lines = a.value, entries = a.more;
+}
+
 static void nothing(const uint8_t *x, size_t n) { (void)x, (void)n; }
 static void list(const uint8_t *x, size_t n) { sorunggyeo_list(x, n, 0, out, 3 * 10000); }
 static void table(const uint8_t *x, size_t n) { sorunggyeo_group_table(x, n, n / 2, out, MOST); }
 static void replay(const uint8_t *x, size_t n) { sorunggyeo_replay(x, n, log_, numbers, n / 2, out, MOST); }
+static void both(const uint8_t *x, size_t n) { sorunggyeo_list_index(x, n, 0, out, 3 * 10000, beside, 4 * SORUNGGYEO_PERIODS); }
+static void both_exact(const uint8_t *x, size_t n) { sorunggyeo_list_index(x, n, 0, out, 3 * 10000, beside, 4 * entries); }
+static void alone(const uint8_t *x, size_t n) { (void)x, (void)n, sorunggyeo_index(out, 3 * lines, beside, 4 * entries); }
+static void lookup(const uint8_t *x, size_t n) { (void)x, (void)n, sorunggyeo_lookup(beside, 4 * entries, 0); }
 static void claim(const uint8_t *x, size_t n) { sorunggyeo_claim(x, n, 1, n / 2, 2); }
 
 static const struct { const char *name; void (*before)(const uint8_t *, size_t), (*call)(const uint8_t *, size_t); } calls[] = {
     {"list", nothing, list}, {"table", nothing, table}, {"log", nothing, own}, {"replay", own, replay}, {"replay_all", all, replay},
+    {"list_index", nothing, both}, {"list_index_exact", lined, both_exact}, {"index", lined, alone}, {"lookup", lined, lookup},
     {"claim", nothing, claim}};
 
 int main(int argc, char **argv)

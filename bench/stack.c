@@ -8,9 +8,14 @@ enum { ROOM = 1 << 20, FILL = 0xa5, NEAR = 256 };
 static uint8_t stack[ROOM] __attribute__((aligned(4096)));
 static uint8_t read[SORUNGGYEO_MOST];
 static uint16_t out[30000], log_[SORUNGGYEO_LOG_MOST];
+static uint64_t beside[4 * SORUNGGYEO_PERIODS];
 static size_t moves;
 
 static void list(void) { sorunggyeo_list(read, sizeof read, 0, out, 30000); }
+static void list_index(void) { sorunggyeo_list_index(read, sizeof read, 0, out, 30000, beside, 4 * SORUNGGYEO_PERIODS); }
+static void counted_first(void) { sorunggyeo_list_index(read, sizeof read, 0, out, 30000, beside, 8); }
+static void index_(void) { sorunggyeo_index(out, 6, beside, 4 * SORUNGGYEO_PERIODS); }
+static void lookup(void) { sorunggyeo_lookup(beside, 8, 3); }
 static void group_table(void) { sorunggyeo_group_table(read, sizeof read, 500, out, 1000); }
 static void make_log(void) { moves = sorunggyeo_log(read, sizeof read, log_, SORUNGGYEO_LOG_MOST).value; }
 static void replay(void) { sorunggyeo_replay(read, sizeof read, log_, 3 * moves, 500, out, 1000); }
@@ -19,7 +24,8 @@ static void motif(void) { sorunggyeo_motif(read, sizeof read, 1, 2, 250); }
 static void next(void) { sorunggyeo_next(log_, 3 * moves, 0); }
 
 static const struct { const char *name; void (*call)(void); } calls[] = {
-    {"list", list}, {"group_table", group_table}, {"log", make_log}, {"replay", replay}, {"claim", claim}, {"motif", motif}, {"next", next}};
+    {"list", list}, {"list_index", list_index}, {"list_index, counted first", counted_first}, {"index", index_}, {"lookup", lookup},
+    {"group_table", group_table}, {"log", make_log}, {"replay", replay}, {"claim", claim}, {"motif", motif}, {"next", next}};
 
 /* what a call leaves alone within NEAR bytes of the caller's frame is not seen */
 static void *measure(void *unused)

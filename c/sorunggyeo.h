@@ -1,7 +1,7 @@
-/* Sorunggyeo for C: the public calls of document 01, proved (crates/sorunggyeo). docs/C.md is the guide.
+/* Sorunggyeo for C: the public calls of documents 01 and 02, proved (crates/sorunggyeo). docs/C.md is the guide.
 
    Positions in a read count from 1; places of lines, entries and bytes count from 0. A read is any bytes. A call answers every input, checks
-   its refusals in the order of their numbers, and touches nothing but the slice that it writes. It holds nothing from call to call, so any
+   its refusals in the order of their numbers, and touches nothing but the slices that it writes. It holds nothing from call to call, so any
    number of threads may call. A pointer with a count of 0 is never followed, and may be null. */
 #ifndef SORUNGGYEO_H
 #define SORUNGGYEO_H
@@ -21,6 +21,8 @@ enum {
     SORUNGGYEO_MOST = 1000,       /* the most bytes that a read may have */
     SORUNGGYEO_LINE = 3,          /* a line of a list: start, period, copies */
     SORUNGGYEO_MOVE = 3,          /* a move of a log: width, name, position */
+    SORUNGGYEO_ENTRY = 4,         /* an entry of a period index: period, place of its first line, number of lines, largest copy count */
+    SORUNGGYEO_PERIODS = 500,     /* room that does for the entries of any read's list: top(1000) */
     SORUNGGYEO_LOG_MOST = 29970   /* room that does for the log of any read: 3·M(1000) */
 };
 
@@ -30,14 +32,16 @@ enum {
     SORUNGGYEO_BAD_NUMBER = 2,    /* the mode or width is none; the value is that number; nothing is changed */
     SORUNGGYEO_LIST_FULL = 3,     /* the list has room for fewer lines than there are; the value is the lines; the whole list is 0 */
     SORUNGGYEO_TOO_SHORT = 4,     /* the log or table is too short; the value is the numbers needed; nothing is changed */
-    SORUNGGYEO_BAD_ENTRY = 5      /* the log is ill-formed; the value is the index of its first bad entry; nothing is changed */
+    SORUNGGYEO_BAD_ENTRY = 5,     /* the log is ill-formed; the value is the index of its first bad entry; nothing is changed */
+    SORUNGGYEO_OUT_OF_PLACE = 6,  /* the list handed in is not strictly in order, or is cut; the value is the first line out of place; nothing is changed */
+    SORUNGGYEO_INDEX_FULL = 7     /* the index has room for fewer entries than there are; the value is the entries; nothing is changed, the list neither */
 };
 
 /* 0 for success or the number of a refusal, and what is returned with it */
 typedef struct {
     uint32_t number;
     uint64_t value;
-    uint64_t more; /* a second value; 0 where there is none, so in every answer of the calls below */
+    uint64_t more; /* a second value, of sorunggyeo_list_index; 0 where there is none */
 } sorunggyeo_answer;
 
 /* a part of a read: `count` bytes from read + from on */
@@ -54,6 +58,16 @@ typedef struct {
     uint16_t name;
     uint16_t position;
 } sorunggyeo_move;
+
+/* an entry of a period index where found is 1, all 0 where it is 0: its place in the index, the place of the period's first line, the number of its
+   lines, its largest copy count */
+typedef struct {
+    uint64_t found;
+    uint64_t place;
+    uint64_t first;
+    uint64_t lines;
+    uint64_t largest;
+} sorunggyeo_entry;
 
 /* The list of the read's repeats to the front of `list`, all (mode 0) or only the leading ones (mode 1), by period, then start. The value
    is the number of lines. Refuses by 1, 2, 3. */
@@ -79,6 +93,18 @@ sorunggyeo_part sorunggyeo_motif(const uint8_t *read, size_t n, uint32_t start, 
 
 /* The next whole entry of a log as it stands, and the place one further; or that the log has ended, and the place kept. */
 sorunggyeo_move sorunggyeo_next(const uint16_t *log, size_t numbers, size_t at);
+
+/* The list as sorunggyeo_list makes it, and beside it the period index of that list to the front of `index`: an entry for each period that occurs, ascending.
+   The value is the number of lines, `more` the number of entries. Refuses by 1, 2, 3, 7; by 3 the index is as it was, by 7 both are. */
+sorunggyeo_answer sorunggyeo_list_index(const uint8_t *read, size_t n, uint32_t mode, uint16_t *list, size_t room, uint64_t *index,
+                                        size_t index_room);
+
+/* The period index of a list alone, all of whose numbers are the list, to the front of `index`. The value is the number of entries. Only the order of the
+   lines is judged, and whether the last one is cut. Refuses by 6, 7. */
+sorunggyeo_answer sorunggyeo_index(const uint16_t *list, size_t numbers, uint64_t *index, size_t index_room);
+
+/* The first entry of a period in an index, or in any numbers. */
+sorunggyeo_entry sorunggyeo_lookup(const uint64_t *index, size_t numbers, uint64_t period);
 
 #ifdef __cplusplus
 }

@@ -1,8 +1,9 @@
 /* Runs the calls from C and prints what the slow program prints, for c/check to compare:
      test lists|leading|logs < READS           every read's list, leading repeats, or log
+     test indexes < READS                      every read's period index, made with the list and from the list alone
      test tables TABLES < READS                every read's tables at the widths that the file TABLES has
      test calls                                what crates/run_calls prints, and the calls on empty slices that are null
-   Besides, no answer has a second value, in `lists` each line is claimed and its motif taken, in `logs` the log is walked by the reader, and in
+   Besides, no answer but one has a second value, in `indexes` each period is looked up, in `lists` each line is claimed and its motif taken, in `logs` the log is walked by the reader, and in
    `tables` the replay of the read's own log must give the same table; what fails prints a line that no stored output has. */
 #include "sorunggyeo.h"
 #include <stdio.h>
@@ -11,6 +12,7 @@
 
 enum { LINES = 10000, WIDE = 70000 };
 static uint8_t read[WIDE];
+static uint64_t beside[4 * SORUNGGYEO_PERIODS], alone[4 * SORUNGGYEO_PERIODS];
 static uint16_t list[LINES * SORUNGGYEO_LINE], log_[SORUNGGYEO_LOG_MOST], table[SORUNGGYEO_MOST], other[SORUNGGYEO_MOST];
 
 _Static_assert(SORUNGGYEO_VERSION == 2 && sizeof(sorunggyeo_answer) == 24, "the header that this program was written for");
@@ -20,7 +22,7 @@ static void expect(int ok, const char *what)
     if (!ok) printf("wrong: %s\n", what);
 }
 
-/* an answer of one value, as all of today's are */
+/* an answer of one value, as all are but that of list and index in one */
 static sorunggyeo_answer one(sorunggyeo_answer a)
 {
     expect(a.more == 0, "there is no second value");
@@ -45,6 +47,12 @@ static int next_read(size_t *n)
 static void numbers(const uint16_t *a, size_t n)
 {
     for (size_t i = 0; i < n; i++) printf(" %u", a[i]);
+    printf("\n");
+}
+
+static void wide_numbers(const uint64_t *a, size_t n)
+{
+    for (size_t i = 0; i < n; i++) printf(" %llu", (unsigned long long)a[i]);
     printf("\n");
 }
 
@@ -90,6 +98,22 @@ static void print_log(size_t n)
     }
     printf("\n");
     expect(at == a.value, "the reader gives every move");
+}
+
+/* the entries that come with the list, those of the list alone, and each looked up */
+static void print_index(size_t n)
+{
+    sorunggyeo_answer a = sorunggyeo_list_index(read, n, 0, list, LINES * SORUNGGYEO_LINE, beside, 4 * SORUNGGYEO_PERIODS);
+    sorunggyeo_answer b = one(sorunggyeo_index(list, SORUNGGYEO_LINE * a.value, alone, 4 * a.more));
+    printf("read %zu lines %llu periods %llu\n", n, (unsigned long long)a.value, (unsigned long long)a.more);
+    expect(b.number == SORUNGGYEO_OK && b.value == a.more && !memcmp(alone, beside, 4 * a.more * sizeof *alone), "both ways give the index");
+    for (size_t k = 0; k < a.more; k++) {
+        const uint64_t *entry = beside + SORUNGGYEO_ENTRY * k;
+        sorunggyeo_entry e = sorunggyeo_lookup(beside, SORUNGGYEO_ENTRY * a.more, entry[0]);
+        printf("%llu %llu %llu %llu\n", (unsigned long long)entry[0], (unsigned long long)entry[1], (unsigned long long)entry[2], (unsigned long long)entry[3]);
+        expect(e.found && e.place == k && e.first == entry[1] && e.lines == entry[2] && e.largest == entry[3], "a period is looked up");
+    }
+    expect(!sorunggyeo_lookup(beside, SORUNGGYEO_ENTRY * a.more, 0).found, "no repeat has the period 0");
 }
 
 static void print_table(size_t n, unsigned width)
@@ -174,6 +198,77 @@ static void claim_on(const char *x, uint32_t i, uint32_t p, uint32_t e)
     printf("%.*s\n", (int)u.count, x + u.from);
 }
 
+static uint64_t wide[4 * SORUNGGYEO_PERIODS];
+
+static void list_index_on(const char *x, uint32_t mode, size_t room, size_t index_room)
+{
+    begin("list_index", room);
+    for (size_t i = 0; i < index_room; i++) wide[i] = 7;
+    printf("slice"), wide_numbers(wide, index_room);
+    sorunggyeo_answer a = sorunggyeo_list_index((const uint8_t *)x, strlen(x), mode, slice, room, wide, index_room);
+    printf("answer %u %llu %llu\nslice", a.number, (unsigned long long)a.value, (unsigned long long)a.more);
+    numbers(slice, room);
+    printf("slice"), wide_numbers(wide, index_room);
+}
+
+static void index_on(const uint16_t *l, size_t count, size_t room)
+{
+    printf("index\nslice");
+    for (size_t i = 0; i < room; i++) wide[i] = 7;
+    wide_numbers(wide, room);
+    answered(sorunggyeo_index(l, count, wide, room));
+    printf("slice"), wide_numbers(wide, room);
+}
+
+static void lookup_on(const uint64_t *index, size_t count, uint64_t period)
+{
+    sorunggyeo_entry e = sorunggyeo_lookup(index, count, period);
+    printf("lookup\n");
+    if (e.found) printf("entry %llu %llu %llu %llu\n", (unsigned long long)e.place, (unsigned long long)e.first, (unsigned long long)e.lines, (unsigned long long)e.largest);
+    else printf("none\n");
+}
+
+static void index_calls(void)
+{
+    const char *x = "ACAACACA";
+    uint16_t r5[12] = {3, 1, 2, 4, 2, 2, 5, 2, 2, 1, 3, 2}, equal[6] = {3, 1, 2, 3, 1, 2}, falls[7] = {1, 2, 2, 5, 1, 2, 4};
+    uint16_t starts[6] = {5, 2, 2, 4, 2, 2}, odd[9] = {1, 0, 0, 9, 0, 65535, 1, 65535, 0};
+    uint64_t own[12] = {1, 0, 1, 2, 2, 1, 2, 2, 3, 3, 1, 2}, twice[9] = {2, 5, 6, 7, 2, 8, 9, 9, 3}, most[4] = {UINT64_MAX, 1, 2, UINT64_MAX};
+    list_index_on(x, 0, 12, 16), list_index_on(x, 0, 13, 15), list_index_on(x, 0, 12, 12), list_index_on(x, 0, 12, 11);
+    list_index_on(x, 0, 11, 16), list_index_on(x, 0, 11, 11), list_index_on(x, 2, 11, 3);
+    list_index_on("AAAA", 0, 9, 8), list_index_on("AAAA", 0, 9, 4), list_index_on("AAAA", 0, 9, 3), list_index_on("AAAA", 1, 4, 4);
+    list_index_on("", 0, 0, 0), list_index_on("", 1, 2, 3);
+    index_on(r5, 12, 13), index_on(r5, 12, 12), index_on(r5, 12, 11), index_on(r5, 12, 0), index_on(r5, 0, 0), index_on(r5, 0, 3);
+    index_on(r5, 1, 4), index_on(r5, 2, 4), index_on(r5, 10, 16), index_on(r5, 11, 0);
+    index_on(equal, 6, 8), index_on(falls, 6, 8), index_on(starts, 6, 0), index_on(falls, 7, 8), index_on(odd, 9, 8);
+    lookup_on(own, 12, 1), lookup_on(own, 12, 2), lookup_on(own, 12, 3), lookup_on(own, 12, 4), lookup_on(own, 12, 0);
+    lookup_on(own, 11, 3), lookup_on(own, 3, 1), lookup_on(own, 0, 0), lookup_on(twice, 9, 2), lookup_on(twice, 9, 3);
+    lookup_on(most, 4, UINT64_MAX);
+    memset(read, 'A', WIDE);
+    const size_t given[4][4] = {{1000, 0, 2997, 2000}, {1000, 0, 2997, 4}, {1000, 1, 2, 4}, {1001, 2, 1, 1}};
+    for (int k = 0; k < 4; k++) {
+        sorunggyeo_answer a = sorunggyeo_list_index(read, given[k][0], given[k][1], slice, given[k][2], wide, given[k][3]);
+        printf("answer %u %llu %llu\n", a.number, (unsigned long long)a.value, (unsigned long long)a.more);
+    }
+}
+
+/* a list of more lines than a u16 number can count: 70,000, of seven periods */
+static void long_list(void)
+{
+    enum { MANY = 70000, EACH = 10000 };
+    static uint16_t many[3 * MANY];
+    for (size_t k = 0; k < MANY; k++) many[3 * k] = k % EACH + 1, many[3 * k + 1] = k / EACH + 1, many[3 * k + 2] = k % 777;
+    sorunggyeo_answer a = one(sorunggyeo_index(many, 3 * MANY, wide, 28));
+    expect(a.number == SORUNGGYEO_OK && a.value == 7, "an index of 70,000 lines");
+    for (size_t p = 0; p < 7; p++)
+        expect(wide[4 * p] == p + 1 && wide[4 * p + 1] == EACH * p && wide[4 * p + 2] == EACH && wide[4 * p + 3] == 776, "its entries");
+    many[3 * (MANY - 1)] = 1;
+    a = one(sorunggyeo_index(many, 3 * MANY, wide, 0));
+    expect(a.number == SORUNGGYEO_OUT_OF_PLACE && a.value == MANY - 1, "its last line out of place");
+    a = one(sorunggyeo_index(many, 3 * (MANY - 1) + 1, wide, 0));
+    expect(a.number == SORUNGGYEO_OUT_OF_PLACE && a.value == MANY - 1, "its last line cut");
+}
+
 static void short_calls(void)
 {
     const char *x = "ACAACACA", *y = "ACACACAC";
@@ -242,6 +337,12 @@ static void null_calls(void)
     expect(u.from == 0 && u.count == 0, "an empty read has no motif");
     sorunggyeo_move m = sorunggyeo_next(NULL, 0, 5);
     expect(!m.found && m.at == 5, "an empty log has ended");
+    sorunggyeo_answer both = sorunggyeo_list_index(aaaa, 4, 0, slice, 9, NULL, 0);
+    expect(both.number == SORUNGGYEO_INDEX_FULL && both.value == 1 && both.more == 0, "an index without room");
+    both = sorunggyeo_list_index(NULL, 0, 0, NULL, 0, NULL, 0);
+    expect(both.number == SORUNGGYEO_OK && both.value == 0 && both.more == 0, "list and index of an empty read");
+    same(sorunggyeo_index(NULL, 0, NULL, 0), 0, 0), same(sorunggyeo_index(names, 3, NULL, 0), 7, 1), same(sorunggyeo_index(NULL, 0, wide, 4), 0, 0);
+    expect(!sorunggyeo_lookup(NULL, 0, 0).found, "an empty index has no entry");
 }
 
 int main(int argc, char **argv)
@@ -254,12 +355,14 @@ int main(int argc, char **argv)
         while (next_read(&n)) print_list(n, 1);
     } else if (!strcmp(what, "logs")) {
         while (next_read(&n)) print_log(n);
+    } else if (!strcmp(what, "indexes")) {
+        while (next_read(&n)) print_index(n);
     } else if (!strcmp(what, "tables") && argc > 2) {
         FILE *stored = fopen(argv[2], "r");
         if (!stored) return 1;
         print_tables(stored);
     } else if (!strcmp(what, "calls")) {
-        short_calls(), long_calls(), byte_calls(), null_calls();
+        short_calls(), long_calls(), byte_calls(), index_calls(), null_calls(), long_list();
     } else {
         return 1;
     }

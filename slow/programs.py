@@ -3,8 +3,8 @@
 import re
 from itertools import groupby
 from reads import Dice, DNA, every, fibonacci, known
-from rules import (LIMIT, LINES, answer_claim, answer_group_table, answer_list, answer_log, answer_replay, claim,
-                   entries, flat, groups_of, lines_of_groups, log, moves, printed, replay, repeats, small, table, top)
+from rules import (LIMIT, LINES, answer_claim, answer_group_table, answer_index, answer_list, answer_list_index, answer_log,
+                   answer_replay, claim, entries, flat, groups_of, lines_of_groups, log, lookup, moves, printed, replay, repeats, small, table, top)
 
 def text(reads):
     return b"".join(x + b"\n" for x in reads)
@@ -66,8 +66,40 @@ def byte_calls():
     yield sevens("table", lambda out: answer_group_table(x, 1, out), 257)
     yield sevens("log", lambda out: answer_log(x, out), 6885)
 
+def both_sevens(x, mode, n, m):
+    # the same for the call that is lent two slices
+    before, beside = [7] * n, [7] * m
+    number, values, after, index = answer_list_index(x, mode, before, beside)
+    slices = [words("slice", numbers) for numbers in (before, beside, after, index)]
+    return "list_index\n" + slices[0] + slices[1] + words("answer", [number, *values]) + slices[2] + slices[3]
+
+def looked(numbers, period):
+    found = lookup(numbers, period)
+    return "lookup\n" + (words("entry", list(found)) if found else "none\n")
+
+R5 = [3, 1, 2, 4, 2, 2, 5, 2, 2, 1, 3, 2]
+
+def index_calls():
+    # document 02, item 1
+    x, top64 = b"ACAACACA", 2 ** 64 - 1
+    for read, mode, n, m in [(x, 0, 12, 16), (x, 0, 13, 15), (x, 0, 12, 12), (x, 0, 12, 11), (x, 0, 11, 16), (x, 0, 11, 11), (x, 2, 11, 3),
+                             (b"AAAA", 0, 9, 8), (b"AAAA", 0, 9, 4), (b"AAAA", 0, 9, 3), (b"AAAA", 1, 4, 4), (b"", 0, 0, 0), (b"", 1, 2, 3)]:
+        yield both_sevens(read, mode, n, m)
+    for l, m in [(R5, 13), (R5, 12), (R5, 11), (R5, 0), ([], 0), ([], 3), (R5[:1], 4), (R5[:2], 4), (R5[:10], 16), (R5[:11], 0),
+                 ([3, 1, 2, 3, 1, 2], 8), ([1, 2, 2, 5, 1, 2], 8), ([5, 2, 2, 4, 2, 2], 0), ([1, 2, 2, 5, 1, 2, 4], 8),
+                 ([1, 0, 0, 9, 0, 65535, 1, 65535, 0], 8)]:
+        yield sevens("index", lambda beside: answer_index(l, beside), m)
+    own = [1, 0, 1, 2, 2, 1, 2, 2, 3, 3, 1, 2]
+    for numbers, period in [(own, 1), (own, 2), (own, 3), (own, 4), (own, 0), (own[:11], 3), (own[:3], 1), ([], 0),
+                            ([2, 5, 6, 7, 2, 8, 9, 9, 3], 2), ([2, 5, 6, 7, 2, 8, 9, 9, 3], 3), ([top64, 1, 2, top64], top64)]:
+        yield looked(numbers, period)
+    within, over = b"A" * 1000, b"A" * 1001
+    for given in [(within, 0, [7] * 2997, [7] * 2000), (within, 0, [7] * 2997, [7] * 4), (within, 1, [7] * 2, [7] * 4), (over, 2, [7], [7])]:
+        number, values, _, _ = answer_list_index(*given)
+        yield words("answer", [number, *values])
+
 def run_calls():
-    return "".join([*short_calls(), *long_calls(), *byte_calls()]).encode()
+    return "".join([*short_calls(), *long_calls(), *byte_calls(), *index_calls()]).encode()
 
 def row(word, numbers):
     return "  %s %s\n" % (word, " ".join(map(str, numbers)))

@@ -102,6 +102,28 @@ def replay(x, numbers, w):
     least = {}
     return [least.setdefault(tuple(h), i) for i, h in enumerate(history, 1)]
 
+def index(lines):
+    # document 02, item 1: one entry a period, from the places and copy counts of its lines
+    found = {}
+    for k, (_, p, e) in enumerate(lines):
+        found.setdefault(p, []).append((k, e))
+    return [(p, min(k for k, _ in found[p]), len(found[p]), max(e for _, e in found[p])) for p in sorted(found)]
+
+def first_loose(numbers):
+    whole = entries(numbers)
+    keys = [(p, i) for i, p, _ in whole]
+    for k in range(1, len(keys)):
+        if not keys[k - 1] < keys[k]:
+            return k
+    return len(whole) if len(numbers) % 3 else None  # leftover numbers are a cut line
+
+def lookup(numbers, period):
+    # the first entry with that period: its place and its three other numbers; leftover numbers are no entry
+    for k in range(len(numbers) // 4):
+        if numbers[4 * k] == period:
+            return (k, *numbers[4 * k + 1:4 * k + 4])
+    return None
+
 def front(numbers, buffer):
     return numbers + buffer[len(numbers):]
 
@@ -114,6 +136,21 @@ def answer_list(x, mode, buffer):
     lines = repeats(x, mode)
     if len(buffer) // 3 < len(lines): return 3, len(lines), [0] * len(buffer)
     return 0, len(lines), front(flat(lines), buffer)
+
+def answer_index(numbers, beside):
+    bad = first_loose(numbers)
+    if bad is not None: return 6, bad, beside
+    made = index(entries(numbers))
+    if len(beside) // 4 < len(made): return 7, len(made), beside
+    return 0, len(made), front(flat(made), beside)
+
+# this one is lent two buffers, and returns two counts where it succeeds
+def answer_list_index(x, mode, buffer, beside):
+    number, value, after = answer_list(x, mode, buffer)
+    if number: return number, (value, 0), after, beside
+    made = index(repeats(x, mode))
+    if len(beside) // 4 < len(made): return 7, (len(made), 0), buffer, beside
+    return 0, (value, len(made)), after, front(flat(made), beside)
 
 def answer_group_table(x, w, buffer):
     n = len(x)

@@ -6,6 +6,9 @@ use Rattle.call_answers.proofs.logged.Reads as logged
 use Rattle.call_answers.proofs.replayed.Reads as replayed
 use Rattle.call_answers.proofs.claimed.Reads as claimed
 use Rattle.call_answers.proofs.taken.Reads as taken
+use Rattle.call_answers.proofs.indexed.Reads as indexed
+use Rattle.call_answers.proofs.list_indexed.Reads as list-indexed
+use Rattle.call_answers.proofs.looked.Reads as looked
 
 pub listed-settled : (κs : _) (a : _) (x y : _) (e f : _) → listed.Learnt κs a x e → listed.Learnt κs a y f → x ≡ y
 listed-settled κs a x y e f p q = p ∙ sym q
@@ -24,3 +27,12 @@ claimed-settled κs a x y e f p q = p ∙ sym q
 
 pub taken-settled : (κs : _) (a : _) (x y : _) (e f : _) → taken.Learnt κs a x e → taken.Learnt κs a y f → x ≡ y
 taken-settled κs a x y e f p q = p ∙ sym q
+
+pub indexed-settled : (κs : _) (a : _) (x y : _) (e f : _) → indexed.Learnt κs a x e → indexed.Learnt κs a y f → x ≡ y
+indexed-settled κs a x y e f p q = p ∙ sym q
+
+pub list-indexed-settled : (κs : _) (a : _) (x y : _) (e f : _) → list-indexed.Learnt κs a x e → list-indexed.Learnt κs a y f → x ≡ y
+list-indexed-settled κs a x y e f p q = p ∙ sym q
+
+pub looked-settled : (κs : _) (a : _) (x y : _) (e f : _) → looked.Learnt κs a x e → looked.Learnt κs a y f → x ≡ y
+looked-settled κs a x y e f p q = p ∙ sym q

@@ -1,9 +1,11 @@
-// The answers of the public calls in document 01's numbers: the one place in code where a case becomes a number and its values.
-// What each case says stands in the definitions of words, specs/Answers.antt; `plain` puts it side by side.
+// The answers of the public calls in the documents' numbers: the one place in code where a case becomes a number and its values.
+// What each case says stands in the definitions of words, specs/Answers.antt, and of words_index, specs/Calls.antt; `plain` puts it side by side.
 ghost use mathlib.Core.Path.{_≡_};
 ghost use Rattle.words.specs.Answers.{listedSays, tabledSays, loggedSays, replayedSays, claimedSays};
-ghost use Rattle.words.specs.Answers.{success as saysSuccess, refusal as saysRefusal};
-ghost use Rattle.call_answers.specs.Plain.{plain, plainMove};
+ghost use Rattle.words.specs.Answers.{success as saysSuccess, both as saysBoth, refusal as saysRefusal};
+ghost use Rattle.words_index.specs.Calls.{indexedSays, listIndexedSays};
+ghost use Rattle.words_index.specs.declared.Looked.{Looked};
+ghost use Rattle.call_answers.specs.Plain.{plain, plainMove, plainLooked};
 use words::Claimed;
 use words::Entry;
 use words::Listed;
@@ -11,6 +13,9 @@ use words::Logged;
 use words::Replayed;
 use words::Tabled;
 use words::Taken;
+use words_index::Indexed;
+use words_index::ListIndexed;
+use words_index::Looked;
 
 // An answer: its number, 0 for success and else the refusal's, and the values returned with it, 0 for each that it has not.
 #[repr(C)]
@@ -31,6 +36,16 @@ pub struct Move {
     pub position: u16,
 }
 
+// What a lookup gives: 1 and the entry's place and its three numbers, or all 0.
+#[repr(C)]
+pub struct Found {
+    pub found: u64,
+    pub place: u64,
+    pub first: u64,
+    pub lines: u64,
+    pub largest: u64,
+}
+
 // a success that returns one value
 fn success(value: usize) -> Answer
     ensures { λ r. ⌜ r ≡ plain (saysSuccess value) ⌝ }
@@ -39,6 +54,17 @@ fn success(value: usize) -> Answer
         number: 0,
         value: value as u64,
         more: 0,
+    }
+}
+
+// a success that returns two
+fn both(value: usize, more: usize) -> Answer
+    ensures { λ r. ⌜ r ≡ plain (saysBoth value more) ⌝ }
+{
+    Answer {
+        number: 0,
+        value: value as u64,
+        more: more as u64,
     }
 }
 
@@ -137,5 +163,63 @@ pub fn taken(t: Taken) -> Move
             name: 0,
             position: 0,
         },
+    }
+}
+
+// what `index` answers
+pub fn indexed(a: Indexed) -> Answer
+    ensures { λ r. ⌜ r ≡ plain (indexedSays a) ⌝ }
+{
+    match a {
+        Indexed::Entries(count) => success(count),
+        Indexed::OutOfPlace(line) => refusal(6, line),
+        Indexed::IndexFull(count) => refusal(7, count),
+    }
+}
+
+// what `list_index` answers
+pub fn list_indexed(a: ListIndexed) -> Answer
+    ensures { λ r. ⌜ r ≡ plain (listIndexedSays a) ⌝ }
+{
+    match a {
+        ListIndexed::Lines { lines, entries } => both(lines, entries),
+        ListIndexed::TooLong(long) => refusal(1, long),
+        ListIndexed::BadMode(mode) => refusal(2, mode as usize),
+        ListIndexed::ListFull(count) => refusal(3, count),
+        ListIndexed::IndexFull(count) => refusal(7, count),
+    }
+}
+
+// no entry
+fn nothing() -> Found
+    ensures { λ r. ⌜ r ≡ plainLooked Looked.Nothing ⌝ }
+{
+    Found {
+        found: 0,
+        place: 0,
+        first: 0,
+        lines: 0,
+        largest: 0,
+    }
+}
+
+// what `lookup` gives
+pub fn looked(a: Looked) -> Found
+    ensures { λ r. ⌜ r ≡ plainLooked a ⌝ }
+{
+    match a {
+        Looked::Entry {
+            place,
+            first,
+            lines,
+            largest,
+        } => Found {
+            found: 1,
+            place: place as u64,
+            first,
+            lines,
+            largest,
+        },
+        Looked::Nothing => nothing(),
     }
 }

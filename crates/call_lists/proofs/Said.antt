@@ -14,10 +14,9 @@ use Rattle.words.specs.Logs.{within}
 use Rattle.words.specs.Answers.{Answer, success, refusal, listedSays}
 use Rattle.words.specs.Calls.{refuse, tooLong, afterwards, listAfterwards, listAnswer, listLeaves}
 use Rattle.words.specs.declared.Listed.{Listed}
-use Rattle.words.proofs.Rows.{rows-times}
-use Rattle.words.proofs.LineLayout.{line-some}
 use Rattle.row_cells.specs.Listing.{Listing}
 use Rattle.row_cells.proofs.Adding.{room-fits}
+use Rattle.call_widths.proofs.Onward.{listing-counted}
 
 -- the contract of `list`: what it answers, and what it leaves in the slice
 abbrev pub Says : List ℕ → ℕ → List ℕ → Listed → List ℕ → Type 0
@@ -36,8 +35,7 @@ module _ (x : List ℕ) (mode : ℕ) (out : List ℕ) where
 
     module _ (m : mode ≤ 1) (r : ℕ) (out′ : List ℕ) (L : Listing lineSize out (lines x (inMode x mode)) r out′) where
       counted : lineCount x (inMode x mode) ≡ r
-      unfolding lineCount
-      counted = rows-times lineSize (lines x (inMode x mode)) r line-some (L .count)
+      counted = listing-counted x mode out out′ r L
 
       same-room : rows lineSize out ≡ rows lineSize out′
       unfolding rows

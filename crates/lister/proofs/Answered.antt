@@ -16,11 +16,13 @@ use Rattle.words.specs.Groups.{table}
 use Rattle.words.specs.Moves.{topOf, moveSize, log, M}
 use Rattle.words.specs.Replay.{replay}
 use Rattle.words.specs.Logs.{within, firstBad, wellFormed}
-use Rattle.words.specs.Answers.{Answer, success, refusal}
-use Rattle.words.specs.Calls.{refuse, tooLong, listAnswer, listLeaves, tableAnswer, tableLeaves, logAnswer, logLeaves, replayAnswer, replayLeaves, claimAnswer}
+use Rattle.words.specs.Answers.{Answer, success, both, refusal}
+use Rattle.words.specs.Calls.{refuse, tooLong, afterwards, listAfterwards, listAnswer, listLeaves, tableAnswer, tableLeaves, logAnswer, logLeaves, replayAnswer, replayLeaves, claimAnswer}
+use Rattle.words_index.specs.Index.{inOrder, entrySize, index, entryCount}
+use Rattle.words_index.specs.Calls.{indexAnswer, indexLeaves, listIndexAnswer, listIndexLeaves, listIndexBeside}
 use Rattle.words.proofs.Tests.{either, or-left, or-right, lt-or-ge}
 use Rattle.words.proofs.Afterwards.{success-front, success-list, list-full, refused-same, refused-list}
-use Rattle.lister.proofs.Refusals.{Row, rowAt, Follows, By, listRows, tableRows, logRows, ReplayWidth, replayRows, claimRows}
+use Rattle.lister.proofs.Refusals.{Row, rowAt, Follows, By, listRows, tableRows, logRows, ReplayWidth, replayRows, claimRows, indexRows, bothRows, listIndexRows, besideRows}
 
 -- where some row holds and each that holds is followed, the answer goes by the table
 goes-by : (t : List Row) (a : Answer) (s : List ℕ) → (k : ℕ) × rowAt t k .when → Follows t a s → By t a s
@@ -162,3 +164,88 @@ module _ (x : List ℕ) (i p e : ℕ) where
       gives zero h = (rw (long-no x h), refl)
       gives (suc zero) h = (rw (long-yes x h), refl)
       gives (suc (suc k)) h = absurd h
+
+module _ (l s : List ℕ) where
+  pub index-by : By (indexRows l s) (indexAnswer l s) (indexLeaves l s)
+  unfolding indexAnswer indexLeaves afterwards refuse success refusal
+  index-by = goes-by (indexRows l s) _ _ (which (either (inOrder l)) (lt-or-ge (rows entrySize s) (entryCount l))) gives
+    where
+      which : (inOrder l ≡ true) ⊎ (inOrder l ≡ false) → (rows entrySize s < entryCount l) ⊎ (entryCount l ≤ rows entrySize s) → (k : ℕ) × rowAt (indexRows l s) k .when
+      which (inr f) b = (6, f)
+      which (inl t) (inl b) = (7, (t, b))
+      which (inl t) (inr b) = (0, (t, b))
+
+      gives : Follows (indexRows l s) (indexAnswer l s) (indexLeaves l s)
+      gives zero w = rw (w .0, le-ltb (rows entrySize s) (entryCount l) (w .1)) (refl, refl)
+      gives (suc zero) w = absurd w
+      gives (suc (suc zero)) w = absurd w
+      gives (suc (suc (suc zero))) w = absurd w
+      gives (suc (suc (suc (suc zero)))) w = absurd w
+      gives (suc (suc (suc (suc (suc zero))))) w = absurd w
+      gives (suc (suc (suc (suc (suc (suc zero)))))) w = rw w (refl, refl)
+      gives (suc (suc (suc (suc (suc (suc (suc zero))))))) w = rw (w .0, lt-ltb (rows entrySize s) (entryCount l) (w .1)) (refl, refl)
+      gives (suc (suc (suc (suc (suc (suc (suc (suc k)))))))) w = absurd w
+
+module _ (x : List ℕ) (mode : ℕ) (out s : List ℕ) where
+  abbrev lined : ℕ
+  lined = lineCount x (inMode x mode)
+
+  abbrev entered : ℕ
+  entered = entryCount (lines x (inMode x mode))
+
+  -- the five ways that the answer goes
+  long-goes : most < length x → listIndexAnswer x mode out s ≡ refusal 1 (length x)
+  unfolding listIndexAnswer refuse
+  long-goes h = rw (long-yes x h)
+
+  mode-goes : length x ≤ most → 1 < mode → listIndexAnswer x mode out s ≡ refusal 2 mode
+  unfolding listIndexAnswer refuse
+  mode-goes h m = rw (long-no x h, in-no 0 1 mode (inr m))
+
+  full-goes : length x ≤ most → mode ≤ 1 → rows lineSize out < lined → listIndexAnswer x mode out s ≡ refusal 3 lined
+  unfolding listIndexAnswer refuse
+  full-goes h m l = rw (long-no x h, in-yes 0 1 mode (omega arith) m, lt-ltb (rows lineSize out) lined l)
+
+  pub short-goes : length x ≤ most → mode ≤ 1 → lined ≤ rows lineSize out → rows entrySize s < entered → listIndexAnswer x mode out s ≡ refusal 7 entered
+  unfolding listIndexAnswer refuse
+  short-goes h m l b = rw (long-no x h, in-yes 0 1 mode (omega arith) m, le-ltb (rows lineSize out) lined l, lt-ltb (rows entrySize s) entered b)
+
+  pub both-goes : length x ≤ most → mode ≤ 1 → lined ≤ rows lineSize out → entered ≤ rows entrySize s → listIndexAnswer x mode out s ≡ both lined entered
+  unfolding listIndexAnswer refuse
+  both-goes h m l b = rw (long-no x h, in-yes 0 1 mode (omega arith) m, le-ltb (rows lineSize out) lined l, le-ltb (rows entrySize s) entered b)
+
+  -- a slice that goes by them
+  both-by : (made full old left : List ℕ) → ((a : Answer) → listIndexAnswer x mode out s ≡ a → (a ≡ both lined entered → left ≡ made) × (a ≡ refusal 3 lined → left ≡ full) × ((k v : ℕ) → eqb k 0 ≡ false → eqb k 3 ≡ false → a ≡ refusal k v → left ≡ old))
+      → By (bothRows x mode out s made full old) (listIndexAnswer x mode out s) left
+  unfolding both refusal
+  both-by made full old left h =
+      goes-by (bothRows x mode out s made full old) _ _
+      (which (lt-or-ge most (length x)) (lt-or-ge 1 mode) (lt-or-ge (rows lineSize out) lined) (lt-or-ge (rows entrySize s) entered))
+      gives
+    where
+      which : (most < length x) ⊎ (length x ≤ most) → (1 < mode) ⊎ (mode ≤ 1) → (rows lineSize out < lined) ⊎ (lined ≤ rows lineSize out) → (rows entrySize s < entered) ⊎ (entered ≤ rows entrySize s)
+          → (k : ℕ) × rowAt (bothRows x mode out s made full old) k .when
+      which (inl g) m l b = (1, g)
+      which (inr g) (inl m) l b = (2, (g, m))
+      which (inr g) (inr m) (inl l) b = (3, (g, m, l))
+      which (inr g) (inr m) (inr l) (inl b) = (7, (g, m, l, b))
+      which (inr g) (inr m) (inr l) (inr b) = (0, (g, m, l, b))
+
+      gives : Follows (bothRows x mode out s made full old) (listIndexAnswer x mode out s) left
+      gives zero w = let e = both-goes (w .0) (w .1) (w .2) (w .3) in (e, h _ e .0 refl)
+      gives (suc zero) w = let e = long-goes w in (e, h _ e .2 1 (length x) refl refl refl)
+      gives (suc (suc zero)) w = let e = mode-goes (w .0) (w .1) in (e, h _ e .2 2 mode refl refl refl)
+      gives (suc (suc (suc zero))) w = let e = full-goes (w .0) (w .1) (w .2) in (e, h _ e .1 refl)
+      gives (suc (suc (suc (suc zero)))) w = absurd w
+      gives (suc (suc (suc (suc (suc zero))))) w = absurd w
+      gives (suc (suc (suc (suc (suc (suc zero)))))) w = absurd w
+      gives (suc (suc (suc (suc (suc (suc (suc zero))))))) w = let e = short-goes (w .0) (w .1) (w .2) (w .3) in (e, h _ e .2 7 entered refl refl refl)
+      gives (suc (suc (suc (suc (suc (suc (suc (suc k)))))))) w = absurd w
+
+  pub list-index-by : By (listIndexRows x mode out s) (listIndexAnswer x mode out s) (listIndexLeaves x mode out s)
+  unfolding listIndexLeaves listAfterwards afterwards both refusal
+  list-index-by = both-by _ _ _ _ (λ a e. (λ q. rw (e, q) refl, λ q. rw (e, q) refl, λ k v y z q. rw (e, q, z, y) refl))
+
+  pub beside-by : By (besideRows x mode out s) (listIndexAnswer x mode out s) (listIndexBeside x mode out s)
+  unfolding listIndexBeside afterwards both refusal
+  beside-by = both-by _ _ _ _ (λ a e. (λ q. rw (e, q) refl, λ q. rw (e, q) refl, λ k v y z q. rw (e, q, y) refl))

@@ -16,6 +16,7 @@ use Rattle.words.specs.Lists.{lineOf, lineSize, lines, lineCount, inMode}
 use Rattle.words.specs.Moves.{topOf, top, moveOf, moveSize, log, M}
 use Rattle.words.specs.Logs.{before}
 use Rattle.words.specs.Answers.{success, refusal, listedSays, tabledSays, loggedSays, replayedSays, claimedSays}
+use Rattle.words_index.specs.Calls.{indexedSays, listIndexedSays}
 use Rattle.words.specs.Calls.{tableAnswer, tableLeaves, replayAnswer, replayLeaves}
 use Rattle.words.proofs.Tests.{lt-or-ge}
 use Rattle.words.proofs.Rows.{Has, rows-times}
@@ -32,13 +33,16 @@ use Rattle.call_lists.proofs.list.Reads as list-call
 use Rattle.call_tables.proofs.group_table.Reads as table-call
 use Rattle.call_logs.proofs.log.Reads as log-call
 use Rattle.call_replays.proofs.replay.Reads as replay-call
+use Rattle.call_list_indexes.proofs.list_index.Reads as both-call
+use Rattle.call_indexes.proofs.index.Reads as index-call
+use Rattle.call_lookups.proofs.lookup.Reads as lookup-call
 use Rattle.call_claims.proofs.claim.Reads as claim-call
 use Rattle.call_claims.proofs.motif.Reads as motif-call
 use Rattle.call_reader.proofs.take_at.Reads as take-call
 use Rattle.call_reader.proofs.Learnt.{NewAsked, NewLearnt, NextAsked, NextLearnt}
-use Rattle.lister.proofs.Refusals.{By, listRows, tableRows, logRows, replayRows, claimRows}
-use Rattle.lister.proofs.Answered.{by-equal, list-by, table-by, log-by, replay-by, claim-by}
-use Rattle.lister.proofs.Handed.{MotifOf, motif-of, TakesOf, takes-of}
+use Rattle.lister.proofs.Refusals.{By, listRows, tableRows, logRows, replayRows, claimRows, indexRows, listIndexRows, besideRows}
+use Rattle.lister.proofs.Answered.{by-equal, list-by, table-by, log-by, replay-by, claim-by, index-by, list-index-by, beside-by}
+use Rattle.lister.proofs.Handed.{MotifOf, motif-of, TakesOf, takes-of, LooksOf, looks-of}
 use Rattle.lister.proofs.Steps.{Steps, steps-of, steps-sum}
 
 -- ---- the first demand
@@ -50,6 +54,11 @@ pub record EveryCallIsAnswered : Type 0 where
   pub log : (κs : _) (a : _) → log-call.Asked κs a × ((r : _) (e : _) → log-call.Learnt κs a r e → By (logRows (now (a .0)) (now (a .1 .0))) (loggedSays r) (now (e .1 .0)))
   pub replay : (κs : _) (a : _) → replay-call.Asked κs a × ((r : _) (e : _) → replay-call.Learnt κs a r e → By (replayRows (now (a .0)) (now (a .1 .0)) (a .1 .1 .0) (now (a .1 .1 .1 .0))) (replayedSays r) (now (e .1 .1 .1 .0)))
   pub claim : (κs : _) (a : _) → claim-call.Asked κs a × ((r : _) (e : _) → claim-call.Learnt κs a r e → By (claimRows (now (a .0)) (a .1 .0) (a .1 .1 .0) (a .1 .1 .1 .0)) (claimedSays r) [])
+  pub list-index : (κs : _) (a : _) → both-call.Asked κs a × ((r : _) (e : _) → both-call.Learnt κs a r e
+      → By (listIndexRows (now (a .0)) (a .1 .0) (now (a .1 .1 .0)) (now (a .1 .1 .1 .0))) (listIndexedSays r) (now (e .1 .1 .0))
+      × By (besideRows (now (a .0)) (a .1 .0) (now (a .1 .1 .0)) (now (a .1 .1 .1 .0))) (listIndexedSays r) (now (e .1 .1 .1 .0)))
+  pub index : (κs : _) (a : _) → index-call.Asked κs a × ((r : _) (e : _) → index-call.Learnt κs a r e → By (indexRows (now (a .0)) (now (a .1 .0))) (indexedSays r) (now (e .1 .0)))
+  pub lookup : (κs : _) (a : _) → lookup-call.Asked κs a × ((r : _) (e : _) → lookup-call.Learnt κs a r e → LooksOf (now (a .0)) (a .1 .0) r)
   pub motif : (κs : _) (a : _) → motif-call.Asked κs a × ((r : _) (e : _) → motif-call.Learnt κs a r e → MotifOf (a .0) (a .1 .0) (a .1 .1 .0) (a .1 .1 .1 .0) r)
   pub take : (κs : _) (a : _) → take-call.Asked κs a × ((r : _) (e : _) → take-call.Learnt κs a r e → TakesOf (now (a .0)) (a .1 .0) (r .entry) (r .at))
   pub new : (κs : _) (a : _) → NewAsked κs a × ((r : _) (e : _) → NewLearnt κs a r e → (r .log ≡ a .0) × (r .at ≡ 0))
@@ -63,6 +72,9 @@ every-call-is-answered =
       log = λ κs a. (tt, λ r e h. by-equal (h .0) (h .1) (log-by _ _));
       replay = λ κs a. (tt, λ r e h. by-equal (h .0) (h .1) (replay-by _ _ _ _));
       claim = λ κs a. (tt, λ r e h. by-equal h refl (claim-by _ _ _ _));
+      list-index = λ κs a. (tt, λ r e h. (by-equal (h .0) (h .1) (list-index-by _ _ _ _), by-equal (h .0) (h .2) (beside-by _ _ _ _)));
+      index = λ κs a. (tt, λ r e h. by-equal (h .0) (h .1) (index-by _ _));
+      lookup = λ κs a. (tt, λ r e h. looks-of _ _ _ h);
       motif = λ κs a. (tt, λ r e h. motif-of _ _ _ _ r (h .0) (h .1) (h .2));
       take = λ κs a. (tt, λ r e h. takes-of _ _ _ _ (ap (λ t. t .entry) h) (ap (λ t. t .at) h));
       new = λ κs a. (tt, λ r e h. (ap (λ t. t .log) h, ap (λ t. t .at) h));

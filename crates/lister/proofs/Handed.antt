@@ -1,21 +1,27 @@
--- The part of the read that the motif call hands back and the entry that the log reader gives, and exactly when. Assumes nothing.
+-- The part of the read that the motif call hands back, the entry that the log reader gives and the one that is looked up, and exactly when. Assumes nothing.
 use Prim.Native.Nat.{ℕ, _+_, _-_, _≤_, _<_}
-use mathlib.Core.Path.{_≡_, sym, ap, _∙_}
-use mathlib.Core.Logic.{_⊎_, inl, inr, _↔_, ⊎-elim}
+use mathlib.Core.Path.{_≡_, refl, sym, ap, _∙_}
+use mathlib.Core.Logic.{_⊎_, inl, inr, _↔_, _≢_, ⊎-elim}
 use mathlib.Core.Bool.{Bool, true, false}
 use mathlib.Core.List.{List, []}
 use native.Mathlib.Omega.{arith}
 use lib.ListN.{length, take, drop, length-drop}
 use lib.Seq.{length-take-le}
-use borrow.Author.Tests.{lt-ltb, le-ltb}
+use lib.Dec.{eqb}
+use borrow.Author.Tests.{lt-ltb, le-ltb, eq-eqb, ne-eqb}
 use denote.Ref.{RefT, ptr, now}
-use Rattle.words.specs.Rows.{rows}
+use Rattle.words.specs.Range.{first}
+use Rattle.words.specs.Rows.{rows, cell}
 use Rattle.words.specs.Reads.{most}
 use Rattle.words.specs.Repeats.{repeats}
 use Rattle.words.specs.Moves.{moveSize, widthOf, nameOf, placeOf}
 use Rattle.words.specs.Calls.{tooLong, shown, motif, motifFrom, readerTakes}
 use Rattle.words.specs.declared.Entry.{Entry}
 use Rattle.words.proofs.Tests.{either, clash, lt-or-ge}
+use Rattle.words.proofs.Searches.{first-hit, first-ended}
+use Rattle.words_index.specs.Index.{entrySize, firstEntry}
+use Rattle.words_index.specs.Calls.{lookupGives}
+use Rattle.words_index.specs.declared.Looked.{Looked}
 use Rattle.words.proofs.Repeats.{Repeat, repeat-is}
 use Rattle.call_claims.proofs.Motifs.{shown-inside}
 
@@ -93,3 +99,27 @@ takes-of l k e k′ given at = record { entry = entry; ended = ended; exactly = 
     only : e ≡ Entry.Ended → (k < rows moveSize l) ⊎ (rows moveSize l ≤ k) → rows moveSize l ≤ k
     only z (inl h) = clash (ap isEnded z) (ap isEnded (entry h .0))
     only z (inr h) = h
+
+-- ---- the lookup
+
+-- what a lookup of the period p in the slice s gives: its first entry, or that none has it
+pub record LooksOf (s : List ℕ) (p : ℕ) (r : Looked) : Type 0 where
+  pub entry : (k : ℕ) → k < rows entrySize s → cell entrySize s k 0 ≡ p → ((h : ℕ) → h < k → cell entrySize s h 0 ≢ p)
+      → r ≡ Looked.Entry k (cell entrySize s k 1) (cell entrySize s k 2) (cell entrySize s k 3)
+  pub nothing : ((k : ℕ) → k < rows entrySize s → cell entrySize s k 0 ≢ p) → r ≡ Looked.Nothing
+
+pub looks-of : (s : List ℕ) (p : ℕ) (r : Looked) → r ≡ lookupGives s p → LooksOf s p r
+unfolding lookupGives firstEntry
+looks-of s p r e = record { entry = entry; nothing = nothing }
+  where
+    entry : (k : ℕ) → k < rows entrySize s → cell entrySize s k 0 ≡ p → ((h : ℕ) → h < k → cell entrySize s h 0 ≢ p)
+        → r ≡ Looked.Entry k (cell entrySize s k 1) (cell entrySize s k 2) (cell entrySize s k 3)
+    entry k b q m =
+        let f : first (λ h. eqb (cell entrySize s h 0) p) (rows entrySize s) 0 ≡ k = first-hit (λ h. eqb (cell entrySize s h 0) p) (rows entrySize s) 0 k (λ h a c. ne-eqb (cell entrySize s h 0) p (m h c)) (omega arith) (omega arith) (eq-eqb (cell entrySize s k 0) p q) in
+        e ∙ rw (f, lt-ltb k (rows entrySize s) b) refl
+
+    nothing : ((k : ℕ) → k < rows entrySize s → cell entrySize s k 0 ≢ p) → r ≡ Looked.Nothing
+    nothing m =
+        let n = rows entrySize s in
+        let f : first (λ h. eqb (cell entrySize s h 0) p) n 0 ≡ n = first-ended (λ h. eqb (cell entrySize s h 0) p) n 0 n (λ h a c. ne-eqb (cell entrySize s h 0) p (m h c)) (omega arith) in
+        e ∙ rw (f, le-ltb n n (omega arith)) refl

@@ -3,3 +3,4 @@ pub mod Answered
 pub mod Handed
 pub mod Steps
 pub mod Demands
+pub mod Indexes

@@ -1,4 +1,4 @@
--- Document 01, "What a call says no to", as a table for each call. Its rows are the numbers from 0, which is success; each says when its number
+-- Document 01, "What a call says no to", and what the requests of document 02 add to it, as a table for each call. Its rows are the numbers from 0, which is success; each says when its number
 -- is given: its own rule holds, and none before it in the order does.
 use Prim.Native.Nat.{ℕ, zero, suc, _*_, _≤_, _<_}
 use mathlib.Core.Path.{_≡_}
@@ -15,17 +15,18 @@ use Rattle.words.specs.Groups.{table}
 use Rattle.words.specs.Moves.{topOf, moveSize, log, M}
 use Rattle.words.specs.Replay.{replay}
 use Rattle.words.specs.Logs.{firstBad, wellFormed}
-use Rattle.words.specs.Answers.{Answer, refusal}
+use Rattle.words.specs.Answers.{Answer}
 use Rattle.words.proofs.Afterwards.{front}
+use Rattle.words_index.specs.Index.{firstLoose, inOrder, entrySize, index, entryCount}
 
 -- one row: when its number is given, what is returned with it, and the lent slice afterwards
 pub record Row : Type 1 where
   pub when : Type 0
-  pub returns : ℕ
+  pub returns : List ℕ
   pub leaves : List ℕ
 
 abbrev pub rowOf : Type 0 → ℕ → List ℕ → Row
-rowOf t v s = record { when = t; returns = v; leaves = s }
+rowOf t v s = record { when = t; returns = v ∷ []; leaves = s }
 
 -- a number that a call never gives
 abbrev pub never : Row
@@ -39,7 +40,7 @@ rowAt (r ∷ t) (suc k) = rowAt t k
 
 -- where row k says so, the answer is number k with its value, and the slice is as the row leaves it
 abbrev pub Follows : List Row → Answer → List ℕ → Type 0
-Follows t a s = (k : ℕ) → rowAt t k .when → (a ≡ refusal k (rowAt t k .returns)) × (s ≡ rowAt t k .leaves)
+Follows t a s = (k : ℕ) → rowAt t k .when → (a ≡ record { number = k; values = rowAt t k .returns }) × (s ≡ rowAt t k .leaves)
 
 -- an answer and a slice go by a table: each number is given exactly when its row says, with its value and its slice
 pub record By (t : List Row) (a : Answer) (s : List ℕ) : Type 0 where
@@ -95,3 +96,38 @@ replayRows x l w out =
 -- the claim check, which has no slice
 abbrev pub claimRows : List ℕ → ℕ → ℕ → ℕ → List Row
 claimRows x i p e = rowOf (length x ≤ most) (bit (repeats x i p e)) [] ∷ rowOf (most < length x) (length x) [] ∷ []
+
+-- the index of a list l alone
+abbrev pub indexRows : List ℕ → List ℕ → List Row
+indexRows l s =
+    rowOf ((inOrder l ≡ true) × (entryCount l ≤ rows entrySize s)) (entryCount l) (front (index l) s)
+    ∷ never
+    ∷ never
+    ∷ never
+    ∷ never
+    ∷ never
+    ∷ rowOf (inOrder l ≡ false) (firstLoose l) s
+    ∷ rowOf ((inOrder l ≡ true) × (rows entrySize s < entryCount l)) (entryCount l) s
+    ∷ []
+
+-- list and index in one call, for a slice that success leaves as `made`, refusal 3 as `full`, and any other refusal as it was
+abbrev pub bothRows : List ℕ → ℕ → List ℕ → List ℕ → List ℕ → List ℕ → List ℕ → List Row
+bothRows x mode out s made full old =
+    let c = lineCount x (inMode x mode) in
+    let e = entryCount (lines x (inMode x mode)) in
+    record { when = (length x ≤ most) × (mode ≤ 1) × (c ≤ rows lineSize out) × (e ≤ rows entrySize s); returns = c ∷ e ∷ []; leaves = made }
+    ∷ rowOf (most < length x) (length x) old
+    ∷ rowOf ((length x ≤ most) × (1 < mode)) mode old
+    ∷ rowOf ((length x ≤ most) × (mode ≤ 1) × (rows lineSize out < c)) c full
+    ∷ never
+    ∷ never
+    ∷ never
+    ∷ rowOf ((length x ≤ most) × (mode ≤ 1) × (c ≤ rows lineSize out) × (rows entrySize s < e)) e old
+    ∷ []
+
+-- for the slice of the list, and for that of the index
+abbrev pub listIndexRows : List ℕ → ℕ → List ℕ → List ℕ → List Row
+listIndexRows x mode out s = bothRows x mode out s (front (lines x (inMode x mode)) out) (replicate (length out) 0) out
+
+abbrev pub besideRows : List ℕ → ℕ → List ℕ → List ℕ → List Row
+besideRows x mode out s = bothRows x mode out s (front (index (lines x (inMode x mode))) s) s s

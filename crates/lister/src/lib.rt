@@ -1,10 +1,13 @@
-// The library that a tablet links: the public calls of document 01. None of them has a `requires`: any slice, any mode, any width and any
-// u32 is answered. What each answers and leaves in each slice stands in crates/words/specs/Calls.antt; docs/CONTRACTS.md has a row for each.
+// The library that a tablet links: the public calls of documents 01 and 02. None of them has a `requires`: any slice, any mode, any width and any
+// u32 is answered. What each answers and leaves in each slice stands in crates/words/specs/Calls.antt and crates/words_index/specs/Calls.antt; docs/CONTRACTS.md has a row for each.
 // proofs/Demands.antt has the three theorems that a reader should open first.
 pub use call_claims::claim;
 pub use call_claims::motif;
+pub use call_indexes::index;
+pub use call_list_indexes::list_index;
 pub use call_lists::list;
 pub use call_logs::log;
+pub use call_lookups::lookup;
 pub use call_reader::LogReader;
 pub use call_reader::new;
 pub use call_reader::next;

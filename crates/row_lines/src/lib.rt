@@ -1,13 +1,13 @@
-// A line as the code has it: how many numbers it takes, which is its period, a line written, and a line compared. No other code knows a line's
-// layout.
+// A line as the code has it: how many numbers it takes, which is which, a line written, and a line compared. No other code knows a line's layout.
 ghost use mathlib.Core.Path.{_≡_};
-ghost use Prim.Native.Nat.{_+_, _≤_};
+ghost use Prim.Native.Nat.{_+_, _≤_, _<_};
 ghost use lib.ListN.{length, take, drop};
 ghost use Rattle.words.specs.Rows.{rows};
 ghost use Rattle.words.specs.Reads.{same};
-ghost use Rattle.words.specs.Lists.{lineOf, lineSize, periodCell};
+ghost use Rattle.words.specs.Lists.{lineOf, lineSize, periodCell, startOf, periodOf, copiesOf};
 ghost use Rattle.row_cells.specs.Listing.{many, Adds};
 use row_cells::add;
+use row_cells::cell;
 use row_cells::count;
 use slots::wide;
 
@@ -29,6 +29,28 @@ pub fn room(out: &[u16]) -> usize
     ensures { λ r. ⌜ r ≡ rows lineSize (now (out .entry)) ⌝ }
 {
     count(out, line_size())
+}
+
+// the start, the period and the copies of line k, counted from 0
+pub fn start_of(list: &[u16], k: usize) -> u16
+    requires { ⌜ k < rows lineSize (now list) ⌝ }
+    ensures { λ r. ⌜ r ≡ startOf (now (list .entry)) k ⌝ }
+{
+    cell(list, line_size(), k, 0)
+}
+
+pub fn period_of(list: &[u16], k: usize) -> u16
+    requires { ⌜ k < rows lineSize (now list) ⌝ }
+    ensures { λ r. ⌜ r ≡ periodOf (now (list .entry)) k ⌝ }
+{
+    cell(list, line_size(), k, period_cell())
+}
+
+pub fn copies_of(list: &[u16], k: usize) -> u16
+    requires { ⌜ k < rows lineSize (now list) ⌝ }
+    ensures { λ r. ⌜ r ≡ copiesOf (now (list .entry)) k ⌝ }
+{
+    cell(list, line_size(), k, 2)
 }
 
 // line k, if there is room for it

@@ -1,41 +1,12 @@
 // Runs every call but the reader's `new` on the reads with known results that document 01 has run, at the edges of each refusal and on refusals
-// in combination, and prints each answer in the document's numbers with the slice before and after. `next` is run by `call_reader::call_once`.
+// in combination, and prints each answer in the documents' numbers with the slices before and after. `next` is run by `call_reader::call_once`. What a
+// request of document 02 adds is run by a library of its own.
 ghost use Prim.Native.Nat.{_≤_};
-use call_answers::Answer;
-use libc::STDOUT_FILENO;
+use run_prints::answer;
+use run_prints::number;
+use run_prints::slice;
+use run_prints::word;
 use words::Entry;
-
-fn word(text: &[u8]) {
-    io::write_all(STDOUT_FILENO, text);
-}
-
-fn number(x: u64) {
-    word(b" ");
-    io::print_decimal(STDOUT_FILENO, x);
-}
-
-fn wide(x: u16) -> u64 {
-    x as u64
-}
-
-// the numbers of a slice
-fn slice(a: &[u16]) {
-    word(b"slice");
-    let mut i: usize = 0;
-    while i < a.len() {
-        number(wide(a[i]));
-        i += 1;
-    }
-    word(b"\n");
-}
-
-// an answer in the document's numbers
-fn answer(a: Answer) {
-    word(b"answer");
-    number(a.number as u64);
-    number(a.value);
-    word(b"\n");
-}
 
 // one call of each kind, with the slice before and after
 fn list_on(read: &[u8], mode: u32, out: &mut [u16]) {
@@ -357,4 +328,5 @@ fn main() {
     walks();
     limits();
     bytes();
+    run_indexes::run();
 }

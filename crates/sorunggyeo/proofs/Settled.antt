@@ -9,6 +9,9 @@ use Rattle.sorunggyeo.proofs.sorunggyeo_replay.Reads as sorunggyeo-repl
 use Rattle.sorunggyeo.proofs.sorunggyeo_claim.Reads as sorunggyeo-claim
 use Rattle.sorunggyeo.proofs.sorunggyeo_motif.Reads as sorunggyeo-motif
 use Rattle.sorunggyeo.proofs.sorunggyeo_next.Reads as sorunggyeo-next
+use Rattle.sorunggyeo.proofs.sorunggyeo_list_index.Reads as sorunggyeo-list-index
+use Rattle.sorunggyeo.proofs.sorunggyeo_index.Reads as sorunggyeo-index
+use Rattle.sorunggyeo.proofs.sorunggyeo_lookup.Reads as sorunggyeo-lookup
 
 pub sorunggyeo-list-settled : (κs : _) (a : _) (x y : _) (e f : _) → sorunggyeo-list.Learnt κs a x e → sorunggyeo-list.Learnt κs a y f → (x ≡ y) × (now (e .1 .1 .0) ≡ now (f .1 .1 .0))
 sorunggyeo-list-settled κs a x y e f p q = (p .0 ∙ sym (q .0), p .1 ∙ sym (q .1))
@@ -30,3 +33,13 @@ sorunggyeo-motif-settled κs a x y e f p q = p ∙ sym q
 
 pub sorunggyeo-next-settled : (κs : _) (a : _) (x y : _) (e f : _) → sorunggyeo-next.Learnt κs a x e → sorunggyeo-next.Learnt κs a y f → x ≡ y
 sorunggyeo-next-settled κs a x y e f p q = p ∙ sym q
+
+pub sorunggyeo-list-index-settled : (κs : _) (a : _) (x y : _) (e f : _) → sorunggyeo-list-index.Learnt κs a x e → sorunggyeo-list-index.Learnt κs a y f →
+    (x ≡ y) × (now (e .1 .1 .0) ≡ now (f .1 .1 .0)) × (now (e .1 .1 .1 .0) ≡ now (f .1 .1 .1 .0))
+sorunggyeo-list-index-settled κs a x y e f p q = (p .0 ∙ sym (q .0), p .1 ∙ sym (q .1), p .2 ∙ sym (q .2))
+
+pub sorunggyeo-index-settled : (κs : _) (a : _) (x y : _) (e f : _) → sorunggyeo-index.Learnt κs a x e → sorunggyeo-index.Learnt κs a y f → (x ≡ y) × (now (e .1 .0) ≡ now (f .1 .0))
+sorunggyeo-index-settled κs a x y e f p q = (p .0 ∙ sym (q .0), p .1 ∙ sym (q .1))
+
+pub sorunggyeo-lookup-settled : (κs : _) (a : _) (x y : _) (e f : _) → sorunggyeo-lookup.Learnt κs a x e → sorunggyeo-lookup.Learnt κs a y f → x ≡ y
+sorunggyeo-lookup-settled κs a x y e f p q = p ∙ sym q

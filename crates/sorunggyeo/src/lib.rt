@@ -1,13 +1,15 @@
-// The public calls of document 01 for C, and for all that calls C: `rt staticlib sorunggyeo` makes the archive, c/sorunggyeo.h declares them.
+// The public calls of documents 01 and 02 for C, and for all that calls C: `rt staticlib sorunggyeo` makes the archive, c/sorunggyeo.h declares them.
 // A slice is a pointer and a count. Each call promises what the same call of the library does, by the same definitions: `plain` puts an
 // answer into document 01's number (0 for success, else the refusal) and values, and the slice afterwards is a definition of the inputs.
 // None has a `requires`.
 ghost use mathlib.Core.Path.{_≡_};
 ghost use Rattle.words.specs.Calls.{listAnswer, listLeaves, tableAnswer, tableLeaves, logAnswer, logLeaves};
 ghost use Rattle.words.specs.Calls.{replayAnswer, replayLeaves, claimAnswer, readerTakes};
-ghost use Rattle.call_answers.specs.Plain.{plain, plainMove};
+ghost use Rattle.words_index.specs.Calls.{indexAnswer, indexLeaves, listIndexAnswer, listIndexLeaves, listIndexBeside, lookupGives};
+ghost use Rattle.call_answers.specs.Plain.{plain, plainMove, plainLooked};
 ghost use Rattle.call_claims.specs.Parts.{motifPart};
 use call_answers::Answer;
+use call_answers::Found;
 use call_answers::Move;
 use call_claims::Part;
 
@@ -69,4 +71,36 @@ pub extern "C" fn sorunggyeo_next(log: &[u16], at: usize) -> Move
     ensures { λ r. ⌜ r ≡ plainMove (readerTakes (now (log .entry)) at) ⌝ }
 {
     call_answers::taken(call_reader::take_at(log, at))
+}
+
+// The list, and the period index beside it.
+#[no_mangle]
+pub extern "C" fn sorunggyeo_list_index(
+    read: &[u8],
+    mode: u32,
+    list: &mut [u16],
+    index: &mut [u64],
+) -> Answer
+    ensures { λ r. ⌜ (r ≡ plain (listIndexAnswer (now (read .entry)) mode (now (list .entry)) (now (index .entry))))
+        × (now (list .exit) ≡ listIndexLeaves (now (read .entry)) mode (now (list .entry)) (now (index .entry)))
+        × (now (index .exit) ≡ listIndexBeside (now (read .entry)) mode (now (list .entry)) (now (index .entry))) ⌝ }
+{
+    call_answers::list_indexed(call_list_indexes::list_index(read, mode, list, index))
+}
+
+// The period index of a list alone.
+#[no_mangle]
+pub extern "C" fn sorunggyeo_index(list: &[u16], index: &mut [u64]) -> Answer
+    ensures { λ r. ⌜ (r ≡ plain (indexAnswer (now (list .entry)) (now (index .entry))))
+        × (now (index .exit) ≡ indexLeaves (now (list .entry)) (now (index .entry))) ⌝ }
+{
+    call_answers::indexed(call_indexes::index(list, index))
+}
+
+// A period looked up.
+#[no_mangle]
+pub extern "C" fn sorunggyeo_lookup(index: &[u64], period: u64) -> Found
+    ensures { λ r. ⌜ r ≡ plainLooked (lookupGives (now (index .entry)) period) ⌝ }
+{
+    call_answers::looked(call_lookups::lookup(index, period))
 }

@@ -5,7 +5,7 @@ use mathlib.Core.List.{List}
 use native.Mathlib.Omega.{arith}
 use lib.ListN.{length, getD}
 use Rattle.words.specs.Rows.{widest, row, cell}
-use Rattle.words.specs.Lists.{lineOf, lineSize, periodCell}
+use Rattle.words.specs.Lists.{lineOf, lineSize, periodCell, startOf, periodOf, copiesOf}
 use Rattle.words.proofs.Rows.{row-cell}
 
 pub line-length : (i p e : ℕ) → length (lineOf i p e) ≡ lineSize
@@ -31,6 +31,15 @@ pub period-inside : periodCell < lineSize
 unfolding periodCell lineSize
 period-inside = omega arith
 
+-- what a line says of its start, its period and its copies
+pub line-says : (l : List ℕ) (k i p e : ℕ) → row lineSize l k ≡ lineOf i p e → (startOf l k ≡ i) × (periodOf l k ≡ p) × (copiesOf l k ≡ e)
+unfolding startOf periodOf copiesOf lineOf lineSize periodCell
+line-says l k i p e h = (
+  sym (row-cell 3 l k 0 (omega arith)) ∙ ap (λ (r : List ℕ). getD r 0 0) h,
+  sym (row-cell 3 l k 1 (omega arith)) ∙ ap (λ (r : List ℕ). getD r 1 0) h,
+  sym (row-cell 3 l k 2 (omega arith)) ∙ ap (λ (r : List ℕ). getD r 2 0) h,
+)
+
 pub line-period : (l : List ℕ) (k i p e : ℕ) → row lineSize l k ≡ lineOf i p e → cell lineSize l k periodCell ≡ p
-unfolding periodCell lineOf
-line-period l k i p e h = sym (row-cell lineSize l k 1 period-inside) ∙ ap (λ (r : List ℕ). getD r 1 0) h
+unfolding periodOf
+line-period l k i p e h = line-says l k i p e h .1

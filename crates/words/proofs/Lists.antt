@@ -37,7 +37,7 @@ repeat-inside x i p e t =
     (r .stand .0, omega (arith, r .stand .0, r .start, mul-le-mul-left p (r .twice)))
 
 -- every line has a line's length
-line-at-length : (x : List ℕ) (p i : ℕ) → length (lineAt x p i) ≡ lineSize
+pub line-at-length : (x : List ℕ) (p i : ℕ) → length (lineAt x p i) ≡ lineSize
 unfolding lineAt
 line-at-length x p i = line-length i p (copies x i p)
 

@@ -1,15 +1,19 @@
 -- Lists of rows: where a row stands, and rows whose keys rise, which is how the lines of a list and the moves of a log are in order.
 -- Assumes nothing.
-use Prim.Native.Nat.{ℕ, zero, suc, _+_, _*_, _/_, _≤_, _<_}
+use Prim.Native.Nat.{ℕ, zero, suc, _+_, _*_, _/_, _%_, _≤_, _<_}
 use mathlib.Core.Path.{_≡_, sym, ap, subst, _∙_}
 use mathlib.Core.Logic.{⊎-elim}
+use mathlib.Core.Bool.{_&&_}
 use mathlib.Core.List.{List, [], _++_, append-assoc}
 use native.Mathlib.Omega.{arith}
-use native.Mathlib.Nat.{add-div-left, mul-div-right, mul-add-div, zero-div, eq-or-lt-of-le, mul-le-mul-left}
+use native.Mathlib.Nat.{add-div-left, mul-div-right, mul-add-div, mul-mod-right, div-add-mod, zero-div, eq-or-lt-of-le, mul-le-mul-left}
 use lib.ListN.{length, getD, take, drop, length-append, length-drop}
 use lib.Seq.{getD-take, getD-drop, take-at, take-append-le, drop-append-le, drop-append-add}
+use lib.Dec.{eqb}
+use borrow.Author.Tests.{eqb-true, eq-eqb}
 use Rattle.words.specs.Range.{gather}
 use Rattle.words.specs.Rows.{rows, row, cell}
+use Rattle.words.proofs.Tests.{and-left, and-right, and-both, same-test}
 use Rattle.words.proofs.Ranges.{append-nil}
 
 module _ (c : ℕ) where
@@ -52,6 +56,21 @@ module _ (c : ℕ) where
   pub rows-times : (l : List ℕ) (m : ℕ) → 1 ≤ c → length l ≡ c * m → rows c l ≡ m
   unfolding rows
   rows-times l m p h = rw h (mul-div-right m p)
+
+  -- f rows are the whole list if and only if it has f rows and nothing is left over
+  pub whole-test : (l : List ℕ) (f : ℕ) → 1 ≤ c → eqb (c * f) (length l) ≡ eqb f (rows c l) && eqb (length l % c) 0
+  unfolding rows
+  whole-test l f p =
+      same-test (eqb (c * f) (length l)) (eqb f (length l / c) && eqb (length l % c) 0)
+      (λ t.
+      let e : c * f ≡ length l = eqb-true (c * f) (length l) t in
+      and-both (eqb f (length l / c)) (eqb (length l % c) 0)
+      (eq-eqb f (length l / c) (sym (rows-times l f p (sym e))))
+      (eq-eqb (length l % c) 0 (ap (λ (v : ℕ). v % c) (sym e) ∙ mul-mod-right c f)))
+      (λ t.
+      let a : f ≡ length l / c = eqb-true f (length l / c) (and-left (eqb f (length l / c)) (eqb (length l % c) 0) t) in
+      let b : length l % c ≡ 0 = eqb-true (length l % c) 0 (and-right (eqb f (length l / c)) (eqb (length l % c) 0) t) in
+      eq-eqb (c * f) (length l) (rw a (omega (arith, b, div-add-mod (length l) c))))
 
   -- rows whose keys rise, from lo to below hi; of each P holds, with its key
   pub data Rise (P : ℕ → List ℕ → Type 0) : ℕ → ℕ → List ℕ → Type 0 where

@@ -2,10 +2,10 @@
 use Prim.Native.Nat.{ℕ, _+_, _≤_, _<_}
 use native.Mathlib.Omega.{arith}
 use lib.Dec.{ltb, eqb}
-use borrow.Author.Tests.{ltb-true, ltb-false, eqb-true, eq-eqb}
+use borrow.Author.Tests.{ltb-true, ltb-false, le-ltb, eqb-true, eq-eqb, ne-eqb}
 use Rattle.words.specs.Range.{bit}
 use mathlib.Core.Path.{_≡_, refl, sym, _∙_}
-use mathlib.Core.Logic.{_⊎_, inl, inr, ⊎-elim}
+use mathlib.Core.Logic.{_⊎_, inl, inr, ⊎-elim, _≢_}
 use mathlib.Core.Bool.{Bool, true, false, _&&_, _||_, not, false≢true, true≢false}
 
 pub either : (b : Bool) → (b ≡ true) ⊎ (b ≡ false)
@@ -92,3 +92,22 @@ eqb-turn m n t = eq-eqb n m (sym (eqb-true m n t))
 
 pub eqb-join : (m n k : ℕ) → eqb m n ≡ true → eqb n k ≡ true → eqb m k ≡ true
 eqb-join m n k s t = eq-eqb m k (eqb-true m n s ∙ eqb-true n k t)
+
+-- a test for two keys, where the test r decides if the first keys are equal
+module _ (a b : ℕ) (r : Bool) where
+  pub keys-differ : a ≢ b → ltb a b || (eqb a b && r) ≡ ltb a b
+  keys-differ ne = rw (ne-eqb a b ne) (go (ltb a b))
+    where
+      go : (t : Bool) → t || false ≡ t
+      go true = refl
+      go false = refl
+
+  pub keys-same : a ≡ b → ltb a b || (eqb a b && r) ≡ r
+  keys-same e = rw (le-ltb a b (omega arith), eq-eqb a b e)
+
+  pub keys-are : ltb a b || (eqb a b && r) ≡ true → (a < b) ⊎ ((a ≡ b) × (r ≡ true))
+  keys-are e =
+      ⊎-elim
+      (λ t. inl (ltb-true a b t))
+      (λ t. inr (eqb-true a b (and-left (eqb a b) r t), and-right (eqb a b) r t))
+      (or-cases (ltb a b) (eqb a b && r) e)

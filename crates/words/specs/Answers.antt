@@ -17,6 +17,10 @@ pub record Answer : Type 0 where
 unfoldable pub success : ℕ → Answer
 success v = record { number = 0; values = v ∷ [] }
 
+-- a success that returns v and w
+unfoldable pub both : ℕ → ℕ → Answer
+both v w = record { number = 0; values = v ∷ w ∷ [] }
+
 -- refusal k that returns v
 unfoldable pub refusal : ℕ → ℕ → Answer
 refusal k v = record { number = k; values = v ∷ [] }

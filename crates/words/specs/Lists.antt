@@ -4,7 +4,7 @@ use mathlib.Core.Bool.{Bool, _&&_, _||_}
 use mathlib.Core.List.{List, [], _∷_}
 use lib.ListN.{length}
 use lib.Dec.{leb, eqb}
-use Rattle.words.specs.Rows.{rows}
+use Rattle.words.specs.Rows.{rows, cell}
 use Rattle.words.specs.ByPeriod.{rowIf, rowsAt, byPeriod}
 use Rattle.words.specs.Repeats.{primitive, leads, copies}
 
@@ -19,6 +19,16 @@ lineSize = 3
 -- which number of a line is its period
 unfoldable pub periodCell : ℕ
 periodCell = 1
+
+-- the start, the period and the copies of line k of a list, counted from 0
+unfoldable pub startOf : List ℕ → ℕ → ℕ
+startOf l k = cell lineSize l k 0
+
+unfoldable pub periodOf : List ℕ → ℕ → ℕ
+periodOf l k = cell lineSize l k periodCell
+
+unfoldable pub copiesOf : List ℕ → ℕ → ℕ
+copiesOf l k = cell lineSize l k 2
 
 -- the line of the repeat of period p that starts at i
 unfoldable pub lineAt : List ℕ → ℕ → ℕ → List ℕ

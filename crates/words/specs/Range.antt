@@ -1,5 +1,5 @@
 -- Searches over a range of numbers, the d numbers from j on. Every "first", "all", "how many" and "list of" in the other files is one of these.
-use Prim.Native.Nat.{ℕ, zero, suc, _+_, _-_}
+use Prim.Native.Nat.{ℕ, zero, suc, _+_, _-_, max}
 use mathlib.Core.Bool.{Bool, true, false}
 use mathlib.Core.List.{List, [], _∷_, _++_}
 
@@ -26,6 +26,11 @@ bit false = 0
 -- how many numbers of the range pass
 unfoldable pub count : (ℕ → Bool) → ℕ → ℕ → ℕ
 count p d j = sum (λ k. bit (p k)) d j
+
+-- the largest that f gives over the range; 0 where the range is empty
+unfoldable pub largest : (ℕ → ℕ) → ℕ → ℕ → ℕ
+largest f zero j = 0
+largest f (suc d) j = max (f j) (largest f d (suc j))
 
 -- the lists that f gives over the range, one after another
 unfoldable pub gather : (ℕ → List ℕ) → ℕ → ℕ → List ℕ

@@ -2,7 +2,7 @@
 use mathlib.Core.Path.{sym, _∙_}
 use borrow.Author.Needs.{needs}
 use Rattle.words.specs.Logs.{before}
-use Rattle.call_judges.proofs.Order.{keys-differ, keys-same}
+use Rattle.words.proofs.Tests.{keys-differ, keys-same}
 use Rattle.call_judges.proofs.ordered.Statement.{statement}
 use Rattle.call_judges.proofs.ordered.Tie as tie
 

@@ -13,12 +13,12 @@ returns-2 c = mode-said _ _ _ (c .before .if1 .left) (c .if2 .taken)
 returns-3 : tie.Need-returns-3
 returns-3 c =
     let l = c .before .before .before .before .if3 .taken in
-    rw (c .before .before .clear .ensures) (short-said _ _ _ (c .before .before .before .before .before .before .before .before .before .before .before .before .if1 .left) (c .before .before .before .before .before .before .before .before .before .before .before .if2 .left) _ _ (c .before .before .before .before .before .before .before .before .before .list-room .ensures) (rw (c .before .before .before .before .before .room .ensures) at l))
+    rw (c .before .before .clear .ensures) (short-said _ _ _ (c .before .before .before .before .before .before .before .before .before .before .before .before .if1 .left) (c .before .before .before .before .before .before .before .before .before .before .before .if2 .left) _ _ (c .before .before .before .before .before .before .before .before .before .list-widths .ensures .0) (rw (c .before .before .before .before .before .room .ensures) at l))
 
 returns-4 : tie.Need-returns-4
 returns-4 c =
     let l = c .if3 .left in
-    lines-said _ _ _ (c .before .before .before .before .before .before .before .before .if1 .left) (c .before .before .before .before .before .before .before .if2 .left) _ _ (c .before .before .before .before .before .list-room .ensures) (rw (c .before .room .ensures) at l)
+    lines-said _ _ _ (c .before .before .before .before .before .before .before .before .if1 .left) (c .before .before .before .before .before .before .before .if2 .left) _ _ (c .before .before .before .before .before .list-widths .ensures .0) (rw (c .before .room .ensures) at l)
 
 pub list-spec : {M : Type 1} → statement M
 list-spec =

@@ -1,9 +1,9 @@
--- `run_calls::slice` meets its contract. The loop's invariant: i is within the slice; the measure is what is left of it. Assumes nothing.
+-- `run_prints::slice` meets its contract. The loop's invariant: i is within the slice; the measure is what is left of it. Assumes nothing.
 use Prim.Native.Nat.{_≤_, _-_}
 use lib.ListN.{length}
 use borrow.Author.Needs.{needs}
-use Rattle.run_calls.proofs.slice.Statement.{statement}
-use Rattle.run_calls.proofs.slice.Tie as tie
+use Rattle.run_prints.proofs.slice.Statement.{statement}
+use Rattle.run_prints.proofs.slice.Tie as tie
 
 abbrev Inv-loop : tie.InvT-loop
 Inv-loop a i₀ t4 i = (i ≤ length a)

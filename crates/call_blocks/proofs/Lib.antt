@@ -1,0 +1,3 @@
+pub mod Growing
+pub mod Indexing
+pub mod Settled

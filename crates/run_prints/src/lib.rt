@@ -1,0 +1,55 @@
+// What the program that runs the calls prints: words, numbers, slices, and answers in the documents' numbers.
+use call_answers::Answer;
+use libc::STDOUT_FILENO;
+
+pub fn word(text: &[u8]) {
+    io::write_all(STDOUT_FILENO, text);
+}
+
+pub fn number(x: u64) {
+    word(b" ");
+    io::print_decimal(STDOUT_FILENO, x);
+}
+
+fn wide(x: u16) -> u64 {
+    x as u64
+}
+
+// the numbers of a slice
+pub fn slice(a: &[u16]) {
+    word(b"slice");
+    let mut i: usize = 0;
+    while i < a.len() {
+        number(wide(a[i]));
+        i += 1;
+    }
+    word(b"\n");
+}
+
+// an answer in the documents' numbers
+pub fn answer(a: Answer) {
+    word(b"answer");
+    number(a.number as u64);
+    number(a.value);
+    word(b"\n");
+}
+
+// the same where a success returns two values
+pub fn answer_both(a: Answer) {
+    word(b"answer");
+    number(a.number as u64);
+    number(a.value);
+    number(a.more);
+    word(b"\n");
+}
+
+// the numbers of an index's slice
+pub fn slice_wide(a: &[u64]) {
+    word(b"slice");
+    let mut i: usize = 0;
+    while i < a.len() {
+        number(a[i]);
+        i += 1;
+    }
+    word(b"\n");
+}
