@@ -4,9 +4,9 @@ use mathlib.Core.Path.{_≡_, refl, sym, ap, subst, _∙_}
 use mathlib.Core.List.{List, _++_}
 use native.Mathlib.Omega.{arith}
 use lib.ListN.{length}
-use Rattle.words.specs.Range.{gather, largest}
+use Rattle.words.specs.Range.{gather}
 use Rattle.words.specs.Rows.{rows}
-use Rattle.words.specs.Lists.{lineSize, periodOf, copiesOf}
+use Rattle.words.specs.Lists.{lineSize, periodOf}
 use Rattle.words.proofs.Rows.{rows-times}
 use Rattle.row_cells.specs.Listing.{Listing, Adds}
 use Rattle.words_index.specs.Index.{entryOf, entrySize, entryIf, index, entryCount}

@@ -18,7 +18,7 @@ use Rattle.words.specs.Replay.{replay}
 use Rattle.words.specs.Logs.{within, firstBad, wellFormed}
 use Rattle.words.specs.Answers.{Answer, success, both, refusal}
 use Rattle.words.specs.Calls.{refuse, tooLong, afterwards, listAfterwards, listAnswer, listLeaves, tableAnswer, tableLeaves, logAnswer, logLeaves, replayAnswer, replayLeaves, claimAnswer}
-use Rattle.words_index.specs.Index.{inOrder, entrySize, index, entryCount}
+use Rattle.words_index.specs.Index.{inOrder, entrySize, entryCount}
 use Rattle.words_index.specs.Calls.{indexAnswer, indexLeaves, listIndexAnswer, listIndexLeaves, listIndexBeside}
 use Rattle.words.proofs.Tests.{either, or-left, or-right, lt-or-ge}
 use Rattle.words.proofs.Afterwards.{success-front, success-list, list-full, refused-same, refused-list}

@@ -1,6 +1,6 @@
 -- `call_blocks::block_at` meets its contract. The loop's invariant: the lines from k to below j have one period; the measure is how many lines are left.
 -- Assumes nothing.
-use Prim.Native.Nat.{_-_, _≤_}
+use Prim.Native.Nat.{_-_}
 use mathlib.Core.Path.{_≡_, sym, _∙_}
 use native.Mathlib.Omega.{arith}
 use borrow.Author.Needs.{needs}

@@ -1,7 +1,7 @@
 -- `call_blocks::index_lines` meets its contract. The loop's invariant: a block begins at k, and the entries of the periods below it are written; the measure is
 -- how many lines are left. Assumes nothing.
 use Prim.Native.Nat.{_-_, _≤_}
-use mathlib.Core.Path.{_≡_, refl}
+use mathlib.Core.Path.{_≡_}
 use native.Mathlib.Omega.{arith}
 use borrow.Author.Needs.{needs}
 use Rattle.words.specs.Rows.{rows}
