@@ -1,4 +1,5 @@
-/* The obvious comparison at each distance: at distance p, how far from each position on the bytes equal those p further. */
+/* The obvious comparison at each distance: at distance p, how far from each position on the bytes equal those p further. An N, which could not be
+   read, equals no other; so no motif that is compared has one. */
 #include "lister.h"
 #include <string.h>
 
@@ -17,7 +18,7 @@ size_t list_repeats(const uint8_t *x, size_t n, uint16_t *list, size_t room)
     size_t count = 0;
     for (size_t p = 1; 2 * p <= n; p++) {
         far[n - p] = 0;
-        for (size_t i = n - p; i-- > 0;) far[i] = x[i] == x[i + p] ? far[i + 1] + 1 : 0;
+        for (size_t i = n - p; i-- > 0;) far[i] = x[i] == x[i + p] && x[i] != 'N' ? far[i + 1] + 1 : 0;
         for (size_t i = 0; i + 2 * p <= n; i++) {
             if (far[i] < p || !primitive(x + i, p)) continue;
             if (count < room) {

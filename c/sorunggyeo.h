@@ -1,17 +1,19 @@
 /* Sorunggyeo for C: the public calls of documents 01 and 02, proved (crates/sorunggyeo). docs/C.md is the guide.
 
-   Positions in a read count from 1; places of lines, entries and bytes count from 0. A read is any bytes. A call answers every input, checks
-   its refusals in the order of their numbers, and touches nothing but the slices that it writes. It holds nothing from call to call, so any
-   number of threads may call. A pointer with a count of 0 is never followed, and may be null. */
+   Positions in a read count from 1; places of lines, entries and bytes count from 0. A read is any bytes; bytes are compared as bytes, but for a
+   capital N, a base that could not be read: it equals nothing but itself at its own position. A call answers every input, checks its refusals
+   in the order of their numbers, and touches nothing but the slices that it writes. It holds nothing from call to call, so any number of threads
+   may call. A pointer with a count of 0 is never followed, and may be null. */
 #ifndef SORUNGGYEO_H
 #define SORUNGGYEO_H
 
 #include <stddef.h>
 #include <stdint.h>
 
-/* Raised by one whenever a struct, a call's arguments or the meaning of a number changes. A program that tests it (#if) when it is compiled
-   tells this header from one that it was not written for. Version 1 is the header before this number, whose answers had one value. */
-#define SORUNGGYEO_VERSION 2
+/* Raised by one whenever a struct, a call's arguments, the meaning of a number or the answer to the same input changes. A program that tests it (#if)
+   when it is compiled tells this header from one that it was not written for. Version 1 is the header before this number, whose answers had one value;
+   in version 2 N was a letter like any other. */
+#define SORUNGGYEO_VERSION 3
 
 #ifdef __cplusplus
 extern "C" {

@@ -15,7 +15,7 @@ static uint8_t read[WIDE];
 static uint64_t beside[4 * SORUNGGYEO_PERIODS], alone[4 * SORUNGGYEO_PERIODS];
 static uint16_t list[LINES * SORUNGGYEO_LINE], log_[SORUNGGYEO_LOG_MOST], table[SORUNGGYEO_MOST], other[SORUNGGYEO_MOST];
 
-_Static_assert(SORUNGGYEO_VERSION == 2 && sizeof(sorunggyeo_answer) == 24, "the header that this program was written for");
+_Static_assert(SORUNGGYEO_VERSION == 3 && sizeof(sorunggyeo_answer) == 24, "the header that this program was written for");
 
 static void expect(int ok, const char *what)
 {
@@ -64,6 +64,7 @@ static void claim_line(size_t n, uint32_t i, uint32_t p, uint32_t e)
     expect(one(sorunggyeo_claim(read, n, i, p, e)).value == 1, "a line of the list is a true claim");
     expect(one(sorunggyeo_claim(read, n, i, p, e + 1)).value == 0, "with a copy more it is not");
     expect(u.from == i - 1 && u.count == p, "its motif is that part of the read");
+    expect(!memchr(read + i - 1, 'N', p * e), "no repeat rests on an unread base");
 }
 
 static void print_list(size_t n, uint32_t mode)
@@ -252,6 +253,29 @@ static void index_calls(void)
     }
 }
 
+static void unread_calls(void)
+{
+    const char *x = "ACACNACAC";
+    const uint16_t own[9] = {1, 2, 1, 1, 3, 2, 1, 4, 3}, foreign[9] = {1, 8, 1, 1, 8, 7, 3, 1, 1};
+    list_on("NNNN", 4, 0, 9), list_on("NNNN", 4, 1, 0), list_on("nnnn", 4, 0, 9), list_on("nnnn", 4, 1, 9), list_on("NnNn", 4, 0, 6);
+    list_on(x, 9, 0, 7), list_on(x, 9, 0, 5), list_on(x, 9, 1, 6), list_on(x, 9, 2, 5), list_on("NACAC", 5, 0, 3), list_on("ACACN", 5, 0, 3);
+    list_on("ANCANC", 6, 0, 3), list_on("ANCANC", 6, 0, 0), list_on("NN", 2, 0, 3), list_on("N", 1, 0, 3);
+    table_on(x, 9, 1, 10), table_on(x, 9, 2, 9), table_on(x, 9, 4, 9), table_on(x, 9, 9, 9), table_on(x, 9, 10, 9);
+    table_on("NNNN", 4, 1, 4), table_on("NNNN", 4, 1, 3), table_on("nnnn", 4, 1, 4), table_on("NACNACN", 7, 3, 7);
+    log_on("NNNN", 4, 27), log_on("NNNN", 4, 26), log_on("nnnn", 4, 27), log_on(x, 9, 97);
+    replay_on("NNNN", own, 9, 1, 4), replay_on("NNNN", own, 9, 2, 5), replay_on("NNNN", own, 9, 3, 4), replay_on("nnnn", own, 9, 2, 4);
+    replay_on("NNNN", own, 0, 2, 4), replay_on("nnnn", own, 0, 2, 4);
+    replay_on("ANANANAN", foreign, 9, 1, 8), replay_on("ANANANAN", foreign, 9, 3, 8), replay_on("ANANANAN", foreign, 9, 4, 8);
+    replay_on("NNNNNNNN", foreign, 9, 4, 8);
+    claim_on(x, 1, 2, 2), claim_on(x, 6, 2, 2), claim_on(x, 1, 2, 4), claim_on(x, 1, 5, 2), claim_on(x, 5, 1, 1), claim_on("NN", 1, 1, 2);
+    claim_on("nn", 1, 1, 2), claim_on("N", 1, 1, 1), claim_on("ACNACN", 1, 3, 2), claim_on("ACnACn", 1, 3, 2), claim_on("ANAN", 1, 2, 2);
+    claim_on("NANA", 1, 2, 2), claim_on("ACNACA", 1, 3, 2), claim_on("NNNN", 1, 1, UINT32_MAX);
+    list_index_on(x, 0, 6, 4), list_index_on(x, 0, 6, 3), list_index_on("NNNN", 0, 0, 0), list_index_on("nnnn", 0, 9, 4);
+    memset(read, 'N', WIDE);
+    answered(sorunggyeo_list(read, 1000, 0, slice, 3)), answered(sorunggyeo_log(read, 1000, slice, 29970));
+    answered(sorunggyeo_claim(read, 1000, 1, 500, 2)), answered(sorunggyeo_list(read, 1001, 0, slice, 1));
+}
+
 /* a list of more lines than a u16 number can count: 70,000, of seven periods */
 static void long_list(void)
 {
@@ -362,7 +386,7 @@ int main(int argc, char **argv)
         if (!stored) return 1;
         print_tables(stored);
     } else if (!strcmp(what, "calls")) {
-        short_calls(), long_calls(), byte_calls(), index_calls(), null_calls(), long_list();
+        short_calls(), long_calls(), byte_calls(), index_calls(), unread_calls(), null_calls(), long_list();
     } else {
         return 1;
     }

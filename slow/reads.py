@@ -1,4 +1,4 @@
-# The reads that the stored results are made from: known, Fibonacci words, and seeded ones.
+# The reads that the stored results are made from: known, Fibonacci words, seeded ones, and reads with unread bases.
 
 ROUNDS = 33  # reads of each seeded kind
 DNA = b"ACGT"
@@ -86,5 +86,27 @@ def seeded():
              ends_in_zero, one_letter, there_and_back]
     return [kind(dice) for _ in range(ROUNDS) for kind in kinds] + long_ones(dice)
 
+# document 02, item 2: N is an unread base, and n a letter like any other
+def few_unread():
+    return [b"N", b"NN", b"nnnn", b"NnNn", b"ACACNACAC", b"NACAC", b"ACACN", b"ANCANC", b"ACNACA", b"NACNACN", b"nACnACn"]
+
+def at_every_place(x):
+    return [x[:k] + b"N" + x[k + 1:] for k in range(len(x))]
+
+def several_unread(dice):
+    x = bytearray(planted(dice))
+    for _ in range(dice.between(1, 4)):
+        x[dice.below(len(x))] = b"NNNn"[dice.below(4)]
+    return bytes(x)
+
+def unread():
+    # drawn from dice of their own, so that the reads before stay what they were
+    dice = Dice(20026)
+    long = bytearray(many_planted(dice, 1000))
+    for _ in range(20):
+        long[dice.below(1000)] = ord("N")
+    return (few_unread() + [x for whole in (b"AAAAA", b"ACACACAC", b"ACGACGACG", b"ACAACACA") for x in at_every_place(whole)]
+            + [several_unread(dice) for _ in range(ROUNDS)] + [bytes(long), b"AC" * 249 + b"NA" + b"AC" * 250, b"N" * 1000])
+
 def every():
-    return known() + fibonacci() + seeded()
+    return known() + fibonacci() + seeded() + unread()

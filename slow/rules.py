@@ -1,10 +1,14 @@
-# The definitions of document 01 as pure functions over a bytes read x, positions from 1.
+# The definitions of document 01 as pure functions over a bytes read x, positions from 1. N is an unread base (document 02, item 2).
 
 from collections import Counter
 from functools import lru_cache
 
 LIMIT = 1000  # the largest read length
 LINES = 10000  # the printing program's room
+
+def marks(x):
+    # the read as it compares: each N is a mark of its own, which no byte is and no other N; primitive, copies and leads are given marks
+    return "".join(chr(256 + i) if byte == ord("N") else chr(byte) for i, byte in enumerate(x))
 
 @lru_cache(maxsize=1000)  # a long read shows the same motif at many starts
 def primitive(u):
@@ -23,7 +27,7 @@ def leads(x, i, p):
     return i <= p or x[i - p - 1:i - 1] != x[i - 1:i - 1 + p]
 
 def repeats(x, mode):
-    found = []
+    x, found = marks(x), []
     for p in range(1, len(x) // 2 + 1):  # two copies of a longer motif do not fit
         for i in range(1, len(x) - 2 * p + 2):  # nor do two copies from a later start
             e = copies(x, i, p)
@@ -35,7 +39,7 @@ def claim(x, i, p, e):
     # this comes first so that no huge string is ever built
     if i < 1 or p < 1 or e < 2 or i + p * e - 1 > len(x):
         return False
-    rest = x[i - 1:]
+    rest = marks(x)[i - 1:]
     u = rest[:p]
     stands = rest.startswith(u * e) and not rest.startswith(u * (e + 1))
     # where k does not divide p the string written k times is too short to be u
@@ -46,7 +50,7 @@ def top(n):
 
 @lru_cache(maxsize=2)  # small and moves ask again for two widths; no caller changes a table
 def table(x, w):
-    least, names = {}, []
+    x, least, names = marks(x), {}, []
     for i in range(1, len(x) + 1):
         stretch = x[i - 1:i - 1 + w]
         # a stretch that does not fit leaves its position alone
@@ -95,7 +99,7 @@ def first_bad(n, numbers):
 
 def replay(x, numbers, w):
     # to share at w is to share at width 1 and to have moved alike at each width below w
-    history = [[byte] for byte in x]
+    history = [[mark] for mark in marks(x)]
     for v, s, j in entries(numbers):
         if v < w:
             history[j - 1].append((v, s))

@@ -5,13 +5,14 @@
 ghost use mathlib.Core.Path.{_≡_};
 ghost use Prim.Native.Nat.{_+_, _≤_, _<_};
 ghost use lib.ListN.{length};
-ghost use Rattle.words.specs.Reads.{letter, alike};
+ghost use Rattle.words.specs.Reads.{at, alike};
 ghost use Rattle.words.specs.Repeats.{primitive, leads, copies as copiesOf};
 ghost use Rattle.call_copies.specs.Copies.{farthest, agreed, cuts};
+use read_letters::same_base;
 
-// what position i compares as: its byte, and 0 past the read's end. Position 0, which is none, is taken for 1, as in the definition
-fn letter_at(read: &[u8], i: usize) -> u8
-    ensures { λ r. ⌜ r ≡ letter (now (read .entry)) i ⌝ }
+// the byte at position i, and 0 past the read's end. Position 0, which is none, is taken for 1, as in the definition
+fn byte_at(read: &[u8], i: usize) -> u8
+    ensures { λ r. ⌜ r ≡ at (now (read .entry)) i ⌝ }
 {
     let mut k = i;
     if 0 < i {
@@ -23,18 +24,18 @@ fn letter_at(read: &[u8], i: usize) -> u8
     0
 }
 
-// are the w bytes from position i those d further? Once the first have left the read, so have the others, and all are 0
-fn same_stretch(read: &[u8], i: usize, w: usize, d: usize) -> bool
-    requires { ⌜ i + d ≤ farthest ⌝ }
-    ensures { λ r. ⌜ r ≡ alike (now (read .entry)) w i (i + d) ⌝ }
+// are the p bytes from position i those p further? Once the first have left the read, so have the others, and all are 0
+fn stand_again(read: &[u8], i: usize, p: usize) -> bool
+    requires { ⌜ i + p ≤ farthest ⌝ }
+    ensures { λ r. ⌜ r ≡ alike (now (read .entry)) p i (i + p) ⌝ }
 {
     let n = read.len();
     let mut k = 0;
-    while k < w {
+    while k < p {
         if n < i + k {
             return true;
         }
-        if letter_at(read, i + k) != letter_at(read, i + d + k) {
+        if !same_base(byte_at(read, i + k), byte_at(read, i + p + k)) {
             return false;
         }
         k += 1;
@@ -45,19 +46,19 @@ fn same_stretch(read: &[u8], i: usize, w: usize, d: usize) -> bool
 // how many of the w bytes from position i on are those d further, up to the first that is not. Both stretches lie in the read, so that
 // the bytes are read as they stand, in a quick loop; only the first can be that of position 0
 fn agree(read: &[u8], i: usize, w: usize, d: usize) -> usize
-    requires { ⌜ i + d + w ≤ length (now read) + 1 ⌝ }
+    requires { ⌜ (1 ≤ d) × (i + d + w ≤ length (now read) + 1) ⌝ }
     ensures { λ r. ⌜ r ≡ agreed (now (read .entry)) w i (i + d) ⌝ }
 {
     if w == 0 {
         return 0;
     }
     let other = i + d;
-    if letter_at(read, i) != letter_at(read, other) {
+    if !same_base(byte_at(read, i), byte_at(read, other)) {
         return 0;
     }
     let mut k = 1;
     while k < w {
-        if read[i + k - 1] != read[other + k - 1] {
+        if !same_base(read[i + k - 1], read[other + k - 1]) {
             return k;
         }
         k += 1;
@@ -125,5 +126,5 @@ pub fn is_leading(read: &[u8], start: u32, period: u32) -> bool
     }
     let before = (start - period) as usize;
     let p = period as usize;
-    !same_stretch(read, before, p, p)
+    !stand_again(read, before, p)
 }

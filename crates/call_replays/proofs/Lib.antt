@@ -1,3 +1,3 @@
-pub mod Letters
+pub mod Named
 pub mod Said
 pub mod Settled

@@ -4,7 +4,7 @@
 ghost use mathlib.Core.Path.{_≡_};
 ghost use mathlib.Core.Bool.{not, _||_};
 ghost use Prim.Native.Nat.{_≤_};
-ghost use lib.ListN.{length, getD};
+ghost use lib.ListN.{length};
 ghost use lib.Dec.{eqb};
 ghost use Rattle.words.specs.Groups.{table};
 ghost use Rattle.words.specs.Moves.{topOf};
@@ -14,34 +14,33 @@ ghost use Rattle.words.specs.Answers.{replayedSays};
 ghost use Rattle.words.specs.Calls.{replayAnswer, replayLeaves};
 ghost use Rattle.slots.specs.Slots.{view};
 ghost use Rattle.call_judges.specs.Judge.{Formed};
-ghost use Rattle.call_replays.specs.Letters.{seenWith};
+ghost use Rattle.call_replays.specs.Named.{nameAfter};
 use call_judges::first_bad;
 use call_judges::well_formed;
 use call_renames::replay_width;
 use read_edges::MOST;
 use read_edges::copy_names;
 use read_edges::top_of;
+use read_letters::last_alike;
+use slots::load;
 use slots::store;
 use slots::wide;
 use words::Replayed;
 
 // ---- the replay
 
-// the first position that has the byte of i, which is i itself if none was seen that has it
-fn first_with(seen: &mut [u16; 256], byte: u8, i: u16) -> u16
-    requires { ⌜ length (now seen) ≡ 256 ⌝ }
-    ensures { λ r. ⌜ (now (seen .exit) ≡ seenWith (now (seen .entry)) byte i) × (r ≡ getD (now (seen .exit)) byte 0) ⌝ }
+// the name of i: that of l, the last position before it that compares as it does, and its own if there is none
+fn name_after(name: &[u16; 1000], l: u16, i: u16) -> u16
+    requires { ⌜ (l ≤ 1000) × (length (now name) ≡ 1000) ⌝ }
+    ensures { λ r. ⌜ r ≡ nameAfter (now (name .entry)) l i ⌝ }
 {
-    let b = byte as usize;
-    let first = seen[b];
-    if 0 < first {
-        return first;
+    if 0 < l {
+        return load(name, l);
     }
-    seen[b] = i;
     i
 }
 
-// the groups of width 1: each position is named by the first that has its byte
+// the groups of width 1: each position is named as the last before it that compares as it does
 pub fn first_groups(name: &mut [u16; 1000], read: &[u8], n: u16)
     requires { ⌜ (n ≤ 1000) × (length (now read) ≡ n) × (length (now name) ≡ 1000) ⌝ }
     ensures { λ r. ⌜ (length (now (name .exit)) ≡ 1000) × (view n (now (name .exit)) ≡ table (now (read .entry)) 1) ⌝ }
@@ -51,7 +50,8 @@ pub fn first_groups(name: &mut [u16; 1000], read: &[u8], n: u16)
     while i < n {
         let at = wide(i);
         i += 1;
-        let s = first_with(&mut seen, read[at], i);
+        let l = last_alike(&mut seen, read[at], i);
+        let s = name_after(name, l, i);
         store(name, i, s);
     }
 }

@@ -4,3 +4,4 @@ pub mod Handed
 pub mod Steps
 pub mod Demands
 pub mod Indexes
+pub mod Unread

@@ -1,77 +1,15 @@
 // Runs every call but the reader's `new` on the reads with known results that document 01 has run, at the edges of each refusal and on refusals
 // in combination, and prints each answer in the documents' numbers with the slices before and after. `next` is run by `call_reader::call_once`. What a
 // request of document 02 adds is run by a library of its own.
-ghost use Prim.Native.Nat.{_≤_};
 use run_prints::answer;
 use run_prints::number;
-use run_prints::slice;
 use run_prints::word;
+use run_sevens::claim_on;
+use run_sevens::list_in;
+use run_sevens::log_in;
+use run_sevens::replay_in;
+use run_sevens::table_in;
 use words::Entry;
-
-// one call of each kind, with the slice before and after
-fn list_on(read: &[u8], mode: u32, out: &mut [u16]) {
-    word(b"list\n");
-    slice(out);
-    answer(call_answers::listed(lister::list(read, mode, out)));
-    slice(out);
-}
-
-fn table_on(read: &[u8], width: u32, out: &mut [u16]) {
-    word(b"table\n");
-    slice(out);
-    answer(call_answers::tabled(lister::group_table(read, width, out)));
-    slice(out);
-}
-
-fn log_on(read: &[u8], out: &mut [u16]) {
-    word(b"log\n");
-    slice(out);
-    answer(call_answers::logged(lister::log(read, out)));
-    slice(out);
-}
-
-fn replay_on(read: &[u8], log: &[u16], width: u32, out: &mut [u16]) {
-    word(b"replay\n");
-    slice(out);
-    answer(call_answers::replayed(lister::replay(read, log, width, out)));
-    slice(out);
-}
-
-fn claim_on(read: &[u8], start: u32, period: u32, copies: u32) {
-    word(b"claim\n");
-    answer(call_answers::claimed(lister::claim(read, start, period, copies)));
-    word(lister::motif(read, start, period, copies));
-    word(b"\n");
-}
-
-// the same on so many sevens
-fn list_in(read: &[u8], mode: u32, room: usize)
-    requires { ⌜ room ≤ 14 ⌝ }
-{
-    let mut out = [7u16; 14];
-    list_on(read, mode, &mut out[..room]);
-}
-
-fn table_in(read: &[u8], width: u32, room: usize)
-    requires { ⌜ room ≤ 257 ⌝ }
-{
-    let mut out = [7u16; 257];
-    table_on(read, width, &mut out[..room]);
-}
-
-fn log_in(read: &[u8], room: usize)
-    requires { ⌜ room ≤ 6885 ⌝ }
-{
-    let mut out = [7u16; 6885];
-    log_on(read, &mut out[..room]);
-}
-
-fn replay_in(read: &[u8], log: &[u16], width: u32, room: usize)
-    requires { ⌜ room ≤ 9 ⌝ }
-{
-    let mut out = [7u16; 9];
-    replay_on(read, log, width, &mut out[..room]);
-}
 
 fn lists() {
     list_in(b"ACAACACA", 0, 12);
@@ -329,4 +267,5 @@ fn main() {
     limits();
     bytes();
     run_indexes::run();
+    run_unread::run();
 }

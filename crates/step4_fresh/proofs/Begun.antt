@@ -1,6 +1,6 @@
--- The rows after the first i positions, one position more at a time: the last position that had its byte is the one before it in its group, or it is the first.
+-- The rows after the first i positions, one position more at a time: the last position that had its letter is the one before it in its group, or it is the first.
 -- Assumes nothing.
-use Prim.Native.Nat.{ℕ, zero, suc, _+_, _-_, _≤_, _<_}
+use Prim.Native.Nat.{ℕ, _+_, _-_, _≤_, _<_}
 use mathlib.Core.Path.{_≡_, refl, sym, ap, _∙_}
 use mathlib.Core.Logic.{⊎-elim, by-cases, _≢_}
 use mathlib.Core.Bool.{false}
@@ -8,12 +8,12 @@ use mathlib.Core.List.{List}
 use native.Mathlib.Omega.{arith}
 use native.Mathlib.Nat.{eq-or-lt-of-le}
 use native.Mathlib.Decide.{ℕ-discrete}
-use lib.ListN.{length, getD, set, replicate, length-set, length-replicate}
-use lib.Seq.{set-getD, getD-set-same, getD-set-other}
+use lib.ListN.{length, replicate}
+use lib.Seq.{set-getD}
 use lib.Dec.{eqb}
 use borrow.Author.Tests.{eq-eqb, ne-eqb}
 use Rattle.words.specs.Range.{bit}
-use Rattle.words.specs.Reads.{at}
+use Rattle.words.specs.Reads.{at, letter}
 use Rattle.words.specs.Groups.{table, size}
 use Rattle.words.proofs.Tests.{lt-or-ge}
 use Rattle.words.proofs.Sums.{count-none, count-le}
@@ -23,6 +23,8 @@ use Rattle.slots.specs.Slots.{put, putSome}
 use Rattle.slots.proofs.Laws.{some-none, some-length, some-same, some-other, view-is}
 use Rattle.refine.specs.Phases.{Clean}
 use Rattle.refine.proofs.Links.{Before, nearest-gap, before-back}
+use Rattle.read_letters.specs.Seen.{Latest, Seen}
+use Rattle.read_letters.proofs.Kept.{seen-start}
 use Rattle.step1_rows.specs.Rows.{row, putAt, Long, NAME, SIZE, PREV, DIST, HEAD, AFTER, BEFORE, TAIL}
 use Rattle.step1_rows.proofs.Laws.{row-same, row-other, long-put}
 use Rattle.step2_bits.specs.Sets.{flags, Sound, Empty}
@@ -30,7 +32,7 @@ use Rattle.step2_bits.proofs.Flags.{flags-length}
 use Rattle.step3_lists.specs.Listed.{Listed}
 use Rattle.step3_lists.proofs.Changed.{lists-none}
 use Rattle.step4_fresh.specs.Fresh.{Blank, Joined, Began}
-use Rattle.step4_fresh.proofs.Filling.{Filled, filled-none, filled-more, Near, Latest, latest-none, latest-same, latest-other, sizeTo, size-to-above, counted-more}
+use Rattle.step4_fresh.proofs.Filling.{Filled, filled-none, filled-more, Near, sizeTo, size-to-above, counted-more}
 
 -- the first i positions of the read x are done
 pub record Begun (x seen : List ℕ) (a : List (List ℕ)) (small : List ℕ) (i : ℕ) : Type 0 where
@@ -40,8 +42,7 @@ pub record Begun (x seen : List ℕ) (a : List (List ℕ)) (small : List ℕ) (i
   pub dists : Filled (Near (table x 1) i) i (row a DIST)
   pub flagged : Filled (λ j v. v ≡ bit (eqb (at (table x 1) j) j)) i (flags small)
   pub counted : (s : ℕ) → 1 ≤ s → s ≤ 1000 → at (row a SIZE) s ≡ sizeTo (table x 1) i s
-  pub seen-long : length seen ≡ 256
-  pub latest : (b : ℕ) → Latest x i b (getD seen b 0)
+  pub met : Seen x i seen
   pub lists : Listed a
   pub tails : Clean (row a TAIL)
   pub sound : Sound small
@@ -50,11 +51,6 @@ pub record Begun (x seen : List ℕ) (a : List (List ℕ)) (small : List ℕ) (i
 put-kept : (l : List ℕ) (i v : ℕ) → at l i ≡ v → put l i v ≡ l
 unfolding put at
 put-kept l i v e = rw (← e) (set-getD l (i - 1) 0)
-
-zeros-at : (m k : ℕ) → getD (replicate {A = ℕ} m 0) k 0 ≡ 0
-zeros-at zero k = refl
-zeros-at (suc m) zero = refl
-zeros-at (suc m) (suc k) = zeros-at m k
 
 -- no position is done
 pub begun-start : (a : List (List ℕ)) → Blank a → (x small : List ℕ) → Sound small → Empty (flags small) → Begun x (replicate 256 0) a small 0
@@ -67,8 +63,7 @@ begun-start a B x small S E =
       dists = filled-none _ _ (clean DIST (omega arith));
       flagged = filled-none _ _ (record { long = flags-length small; none = E .none });
       counted = λ s l m. B .none SIZE s (omega arith) l m ∙ sym (count-none (λ j. eqb (at (table x 1) j) s) 0 1 (λ k c d. absurd (omega arith)));
-      seen-long = length-replicate {A = ℕ} 256 0;
-      latest = λ b. rw (zeros-at 256 b) (latest-none x b);
+      met = seen-start x;
       lists =
           lists-none _ _ _ _ (B .long .each DIST (omega arith)) (B .long .each HEAD (omega arith)) (B .long .each AFTER (omega arith)) (B .long .each BEFORE (omega arith))
           (λ i p. B .none DIST i (omega arith) (p .0) (p .1))
@@ -77,29 +72,19 @@ begun-start a B x small S E =
       sound = S;
     }
 
--- the byte of the next position
-pub byte-is : (x : List ℕ) (i k : ℕ) → k ≡ i → at x (i + 1) ≡ getD x k 0
-unfolding at
-byte-is x i k e = ap (λ (j : ℕ). getD x j 0) (omega arith)
-
--- b is the byte of the next position
-module _ (x seen : List ℕ) (a : List (List ℕ)) (small : List ℕ) (i b : ℕ) (has : at x (i + 1) ≡ b) (B : Begun x seen a small i)
-    (inside : i + 1 ≤ length x) (few : length x ≤ 1000) where
+-- l is the last of the first i positions that has the letter of the next one, and seen′ is kept after that one
+module _ (x seen seen′ : List ℕ) (a : List (List ℕ)) (small : List ℕ) (i l : ℕ) (last : Latest x i (letter x (i + 1)) l) (kept : Seen x (i + 1) seen′)
+    (B : Begun x seen a small i) (inside : i + 1 ≤ length x) (few : length x ≤ 1000) where
   abbrev t : List ℕ
   t = table x 1
-
-  -- the last position that has it
-  abbrev l : ℕ
-  l = getD seen b 0
 
   -- it is the position before the next one
   before-is : Before t (i + 1) l
   before-is =
-      let N = B .latest b in
       record {
-        low = omega (arith, N .high);
-        same = λ m. group-letter x l (i + 1) m (omega (arith, N .high)) (omega arith) inside .1 (N .same m ∙ sym has);
-        free = λ k m d q. N .free k m (omega arith) (group-letter x k (i + 1) (omega arith) (omega arith) (omega arith) inside .0 q ∙ has);
+        low = omega (arith, last .high);
+        same = λ m. group-letter x l (i + 1) m (omega (arith, last .high)) (omega arith) inside .1 (last .same m);
+        free = λ k m d q. last .free k m (omega arith) (group-letter x k (i + 1) (omega arith) (omega arith) (omega arith) inside .0 q);
       }
 
   -- so the distances are those of one position more
@@ -149,9 +134,9 @@ module _ (x seen : List ℕ) (a : List (List ℕ)) (small : List ℕ) (i b : ℕ
           (eq-or-lt-of-le h))
 
   -- the next position is done: its name is s
-  begun-more : (a′ : List (List ℕ)) (small′ : List ℕ) (s : ℕ) → at t (i + 1) ≡ s → 1 ≤ s → s ≤ 1000 → b < 256 → Joined a a′ l (i + 1) s
-      → Sound small′ → flags small′ ≡ put (flags small) (i + 1) (bit (eqb s (i + 1))) → Begun x (set seen b (i + 1)) a′ small′ (i + 1)
-  begun-more a′ small′ s is low high byte J S F =
+  begun-more : (a′ : List (List ℕ)) (small′ : List ℕ) (s : ℕ) → at t (i + 1) ≡ s → 1 ≤ s → s ≤ 1000 → Joined a a′ l (i + 1) s
+      → Sound small′ → flags small′ ≡ put (flags small) (i + 1) (bit (eqb s (i + 1))) → Begun x seen′ a′ small′ (i + 1)
+  begun-more a′ small′ s is low high J S F =
       record {
         long = J .long;
         names = rw (J .name) (filled-more _ i _ s (B .names) (omega arith) (sym is));
@@ -164,10 +149,7 @@ module _ (x seen : List ℕ) (a : List (List ℕ)) (small : List ℕ) (i b : ℕ
             });
         flagged = rw F (filled-more _ i _ _ (B .flagged) (omega arith) (rw is refl));
         counted = rw (J .size) (counted-more t (row a SIZE) i s (B .long .each SIZE (omega arith)) is low high (B .counted));
-        seen-long = length-set seen b (i + 1) ∙ B .seen-long;
-        latest = λ c. by-cases (ℕ-discrete c b)
-            (λ q. rw (q, getD-set-same seen b (i + 1) 0 (omega (arith, B .seen-long))) (latest-same x (i + 1) b has))
-            (λ ne. rw (getD-set-other seen b c (i + 1) 0 ne) (latest-other x i c (getD seen c 0) (λ e. ne (sym e ∙ has)) (B .latest c)));
+        met = kept;
         lists = J .lists;
         tails = rw (J .tail) (B .tails);
         sound = S;
@@ -198,17 +180,17 @@ module _ (x seen : List ℕ) (a : List (List ℕ)) (small : List ℕ) (i b : ℕ
         let fewer : at (row a SIZE) s < 1000 = omega (arith, B .counted s (w .0) (omega (arith, w .1)), count-le (λ j. eqb (at t j) s) i 1) in
         (B .long, B .lists, some, before-is .low, omega arith, w .0, omega (arith, w .1), fewer, far)
 
-    pub begun-next : (a′ : List (List ℕ)) → b < 256 → Joined a a′ l (i + 1) (at (row a NAME) l) → Begun x (set seen b (i + 1)) a′ small (i + 1)
-    begun-next a′ byte J =
+    pub begun-next : (a′ : List (List ℕ)) → Joined a a′ l (i + 1) (at (row a NAME) l) → Begun x seen′ a′ small (i + 1)
+    begun-next a′ J =
         let s = at (row a NAME) l in
         let w = named-within in
         let flag = B .flagged .beyond (i + 1) (omega arith) (omega arith) ∙ sym (ap bit (ne-eqb s (i + 1) (λ e. omega (arith, e, w .1)))) in
-        begun-more a′ small s named (w .0) (omega (arith, w .1)) byte J (B .sound) (sym (put-kept (flags small) (i + 1) (bit (eqb s (i + 1))) flag))
+        begun-more a′ small s named (w .0) (omega (arith, w .1)) J (B .sound) (sym (put-kept (flags small) (i + 1) (bit (eqb s (i + 1))) flag))
 
   -- the next position is the first of its group
-  pub begun-first : (small′ : List ℕ) → l ≡ 0 → b < 256 → Sound small′ → flags small′ ≡ put (flags small) (i + 1) 1
-      → Begun x (set seen b (i + 1)) (putAt (putAt a NAME (i + 1) (i + 1)) SIZE (i + 1) 1) small′ (i + 1)
-  begun-first small′ none byte S flag =
+  pub begun-first : (small′ : List ℕ) → l ≡ 0 → Sound small′ → flags small′ ≡ put (flags small) (i + 1) 1
+      → Begun x seen′ (putAt (putAt a NAME (i + 1) (i + 1)) SIZE (i + 1) 1) small′ (i + 1)
+  begun-first small′ none S flag =
       let j = i + 1 in
       let f = putAt a NAME j j in
       let g = putAt f SIZE j 1 in
@@ -220,7 +202,7 @@ module _ (x seen : List ℕ) (a : List (List ℕ)) (small : List ℕ) (i b : ℕ
       let zero : at (row a SIZE) j ≡ 0 = B .counted j (omega arith) (omega arith) ∙ size-to-above t L i j (omega arith) (omega arith) in
       let kept : (r : ℕ) → eqb SIZE r ≡ false → eqb NAME r ≡ false → row g r ≡ row a r =
       λ r h k. row-other f SIZE j 1 r h ∙ row-other a NAME j j r k in
-      begun-more g small′ j first (omega arith) (omega arith) byte
+      begun-more g small′ j first (omega arith) (omega arith)
       (record {
         long = long-put f SIZE j 1 lf;
         name = row-other f SIZE j 1 NAME refl ∙ row-same a NAME j j (B .long) (omega arith);

@@ -1,5 +1,5 @@
-// The groups of width 1 of a read, made in rows of zeros: two positions share a group if they have the same byte. One way over the positions, from the
-// left, names and links each, counts it in its group, and makes every group small.
+// The groups of width 1 of a read, made in rows of zeros: two positions share a group if they have the same letter. One way over the positions, from the
+// left, names and links each, counts it in its group, and makes every group small. What a letter is, `read_letters` alone knows.
 ghost use mathlib.Core.Path.{_≡_};
 ghost use Prim.Native.Nat.{_+_, _≤_, _<_};
 ghost use lib.ListN.{length};
@@ -9,6 +9,7 @@ ghost use Rattle.step1_rows.specs.Rows.{row, putAt, Long, NAME, SIZE, DIST};
 ghost use Rattle.step2_bits.specs.Sets.{flags, Sound, Empty};
 ghost use Rattle.step3_lists.specs.Listed.{Listed};
 ghost use Rattle.step4_fresh.specs.Fresh.{Blank, Joined, Began};
+use read_letters::last_alike;
 use slots::wide;
 use step1_rows::NAME;
 use step1_rows::PREV;
@@ -17,13 +18,6 @@ use step1_rows::load;
 use step1_rows::store;
 use step2_bits::mark;
 use step3_lists::link;
-
-// the place of a byte among those seen
-fn letter(byte: u8) -> usize
-    ensures { λ r. ⌜ (r ≡ byte) × (r < 256) ⌝ }
-{
-    byte as usize
-}
 
 // i is the first of its group, which is small
 fn first_letter(a: &mut [[u16; 1000]; 13], small: &mut [u64; 17], i: u16)
@@ -59,9 +53,7 @@ pub fn fresh(a: &mut [[u16; 1000]; 13], small: &mut [u64; 17], read: &[u8], n: u
     while i < n {
         let at = wide(i);
         i += 1;
-        let b = letter(read[at]);
-        let l = seen[b];
-        seen[b] = i;
+        let l = last_alike(&mut seen, read[at], i);
         if 0 < l {
             next_letter(a, l, i);
         } else {

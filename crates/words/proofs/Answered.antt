@@ -7,7 +7,7 @@ use lib.ListN.{replicate}
 use Rattle.words.specs.Range.{first, every, sum, count, gather, cells, column, leader}
 use Rattle.words.specs.Rows.{rows, cell}
 use Rattle.words.specs.ByPeriod.{rowIf, rowsAt, byPeriod}
-use Rattle.words.specs.Reads.{at, letter, fits, stretch, same, alike}
+use Rattle.words.specs.Reads.{at, letterOf, letter, fits, stretch, same, alike}
 use Rattle.words.specs.Repeats.{stands, primitive, repeats, leads, copies}
 use Rattle.words.specs.Lists.{lineOf, lineSize, lineAt, listed, linesAt, lines, lineCount, inMode}
 use Rattle.words.specs.Groups.{share, name, table, size, beats, big, allSmall, partsSmall, smalls}
@@ -52,7 +52,7 @@ pub record Answered : Type 0 where
   pub reader-says : (entrySays (readerTakes (2 ∷ 8 ∷ 7 ∷ []) 0 .entry) ≡ record { number = 0; values = 2 ∷ 8 ∷ 7 ∷ [] }) × (entrySays (readerTakes twice 3 .entry) ≡ record { number = 0; values = [] })
 
 pub answered : Answered
-unfolding first every sum count gather cells column leader rows cell at letter fits stretch same alike stands primitive repeats leads copies rowIf rowsAt byPeriod lineOf lineSize lineAt listed linesAt lines inMode lineCount share name table size beats big allSmall partsSmall smalls topOf top moveOf moveSize widthCell widthOf nameOf placeOf moveAt movesOf movesIn moves log log2 M moving under stays after replayed replay within before moved good firstBad wellFormed success refusal refuse tooLong afterwards listAfterwards listAnswer listLeaves tableAnswer tableLeaves logAnswer logLeaves replayAnswer replayLeaves claimAnswer shown motifFrom motif readerTakes entrySays
+unfolding first every sum count gather cells column leader rows cell at letterOf letter fits stretch same alike stands primitive repeats leads copies rowIf rowsAt byPeriod lineOf lineSize lineAt listed linesAt lines inMode lineCount share name table size beats big allSmall partsSmall smalls topOf top moveOf moveSize widthCell widthOf nameOf placeOf moveAt movesOf movesIn moves log log2 M moving under stays after replayed replay within before moved good firstBad wellFormed success refusal refuse tooLong afterwards listAfterwards listAnswer listLeaves tableAnswer tableLeaves logAnswer logLeaves replayAnswer replayLeaves claimAnswer shown motifFrom motif readerTakes entrySays
 answered =
     record {
       list-passes = (refl, refl);

@@ -10,7 +10,7 @@ use native.Mathlib.Nat.{zero-mul, mod-lt, div-add-mod, mul-mod-right, mul-div-ri
 use lib.ListN.{length, getD, length-append, List·getD-append}
 use lib.Seq.{getD-append-add, ext-getD}
 use Rattle.words.specs.Range.{first, every, gather, cells}
-use Rattle.words.specs.Reads.{at, letter, stretch, same, alike}
+use Rattle.words.specs.Reads.{at, letterOf, letter, stretch, same, alike}
 use Rattle.words.specs.Repeats.{stands, primitive, repeats, copies, written}
 use Rattle.words.proofs.Tests.{either}
 use Rattle.words.proofs.Ranges.{length-cells}
@@ -166,5 +166,5 @@ pub record Edges : Type 0 where
   pub none : (repeats (0 ∷ 0 ∷ []) 0 1 2 ≡ false) × (repeats (0 ∷ 0 ∷ []) 1 0 2 ≡ false) × (repeats (0 ∷ 0 ∷ []) 1 1 0 ≡ false) × (repeats (0 ∷ 0 ∷ []) 1 1 1 ≡ false)
 
 pub edges : Edges
-unfolding first every gather cells at letter stretch same alike stands primitive repeats copies
+unfolding first every gather cells at letterOf letter stretch same alike stands primitive repeats copies
 edges = record { zeros = (refl, refl, refl); last = (refl, refl, refl); large = (refl, refl); none = (refl, refl, refl, refl) }

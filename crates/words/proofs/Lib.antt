@@ -3,6 +3,7 @@ pub mod Ranges
 pub mod Rows
 pub mod Sums
 pub mod Leaders
+pub mod Letters
 pub mod Stretches
 pub mod Groups
 pub mod Small
@@ -17,6 +18,7 @@ pub mod Sizes
 pub mod Logs
 pub mod Periods
 pub mod Repeats
+pub mod Unread
 pub mod LineLayout
 pub mod ByPeriod
 pub mod Searches

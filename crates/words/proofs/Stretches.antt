@@ -1,5 +1,4 @@
--- Stretches of a read: the test that two are equal says that they are equal letter by letter. Only `letter-byte` opens `letter`.
--- Assumes nothing.
+-- Stretches of a read: the test that two are equal says that they are equal letter by letter. Assumes nothing.
 use Prim.Native.Nat.{ℕ, zero, suc, _+_, _≤_, _<_}
 use mathlib.Core.Path.{_≡_, refl, sym, ap, _∙_}
 use mathlib.Core.Bool.{Bool, true, false}
@@ -9,14 +8,9 @@ use lib.ListN.{getD}
 use lib.Dec.{eqb}
 use borrow.Author.Tests.{eqb-true, eq-eqb}
 use Rattle.words.specs.Range.{gather, cells}
-use Rattle.words.specs.Reads.{at, letter, stretch, same, alike}
+use Rattle.words.specs.Reads.{letter, stretch, same, alike}
 use Rattle.words.proofs.Tests.{clash}
 use Rattle.words.proofs.Ranges.{getD-cells}
-
--- a position compares as its byte
-pub letter-byte : (x : List ℕ) (i : ℕ) → letter x i ≡ at x i
-unfolding letter
-letter-byte x i = refl
 
 -- the test of equal strings
 pub same-is : (u v : List ℕ) → same u v ≡ true → u ≡ v

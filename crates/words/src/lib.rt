@@ -1,4 +1,4 @@
-// The words and rules of document 01, and the theory over them. There is no code here: specs/ has the definitions, in the
+// The words and rules of document 01, read with document 02's rule of N, and the theory over them. There is no code here: specs/ has the definitions, in the
 // document's order, proofs/ has the laws and theorems over them, and this file has the kinds of answer that the public calls give.
 // What each case of an answer says in the document's numbers stands in specs/Answers.antt.
 

@@ -1,12 +1,14 @@
 -- `call_copies::agree` meets its contract. The loop's invariant: the first k letters agree; the measure is how many are left.
 -- Assumes nothing.
 use Prim.Native.Nat.{_+_, _-_, _≤_}
-use mathlib.Core.Path.{sym, _∙_}
+use mathlib.Core.Path.{sym}
 use native.Mathlib.Omega.{arith}
 use borrow.Author.Needs.{needs}
 use borrow.Author.Count.{below-more}
+use borrow.Author.Tests.{not-true, not-false}
 use Rattle.words.proofs.Stretches.{Alike}
-use Rattle.call_copies.proofs.Letters.{letter-at}
+use Rattle.read_letters.proofs.Bases.{bases-same, bases-differ}
+use Rattle.call_copies.proofs.Letters.{byte-at}
 use Rattle.call_copies.proofs.Agreed.{agreed-is, agreed-none, agreed-first}
 use Rattle.call_copies.proofs.agree.Statement.{statement}
 use Rattle.call_copies.proofs.agree.Tie as tie
@@ -23,44 +25,54 @@ returns c = agreed-is _ _ _ _ 0 (omega arith) (λ k l. absurd (omega arith)) (λ
 add-other : tie.Need-add-other Inv-loop μ-loop
 add-other c = search needs
 
-letter-at-requires : tie.Need-letter-at-requires Inv-loop μ-loop
-letter-at-requires c κs = search needs
+byte-at-requires : tie.Need-byte-at-requires Inv-loop μ-loop
+byte-at-requires c κs = search needs
 
-letter-at-requires-2 : tie.Need-letter-at-requires-2 Inv-loop μ-loop
-letter-at-requires-2 c κs = search needs
+byte-at-requires-2 : tie.Need-byte-at-requires-2 Inv-loop μ-loop
+byte-at-requires-2 c κs = search needs
+
+same-base-requires : tie.Need-same-base-requires Inv-loop μ-loop
+same-base-requires c κs = search needs
 
 returns-2 : tie.Need-returns-2 Inv-loop μ-loop
-returns-2 c = agreed-none _ _ _ _ (λ e. c .if2 .taken (c .before .before .letter-at .ensures ∙ e ∙ sym (c .before .letter-at2 .ensures)))
+returns-2 c =
+    let b = c .before .before in
+    agreed-none _ _ _ _ (bases-differ _ _ _ (λ q. omega (arith, q)) _ _ (b .before .byte-at .ensures) (b .byte-at2 .ensures) _ (c .before .same-base .ensures) (not-true _ (c .if2 .taken)))
 
 loop-holds : tie.Need-loop-holds Inv-loop μ-loop
-loop-holds c = (
-  omega arith,
-  omega arith,
-  agreed-first _ 0 _ _ (sym (c .before .before .letter-at .ensures) ∙ c .if2 .left ∙ c .before .letter-at2 .ensures),
-)
+loop-holds c =
+    let b = c .before .before in (
+      omega arith,
+      omega arith,
+      agreed-first _ 0 _ _ (bases-same _ _ _ (λ q. omega (arith, q)) _ _ (b .before .byte-at .ensures) (b .byte-at2 .ensures) _ (c .before .same-base .ensures) (not-false _ (c .if2 .left))),
+    )
 
-add-if3 : tie.Need-add-if3 Inv-loop μ-loop
-add-if3 c = search needs
+add-same-base : tie.Need-add-same-base Inv-loop μ-loop
+add-same-base c = search needs
 
-sub-if3 : tie.Need-sub-if3 Inv-loop μ-loop
-sub-if3 c = search needs
+sub-same-base : tie.Need-sub-same-base Inv-loop μ-loop
+sub-same-base c = search needs
 
-shared-slice-read-if3 : tie.Need-shared-slice-read-if3 Inv-loop μ-loop
-shared-slice-read-if3 c = search needs
+shared-slice-read-same-base : tie.Need-shared-slice-read-same-base Inv-loop μ-loop
+shared-slice-read-same-base c = search needs
 
-add-if3-2 : tie.Need-add-if3-2 Inv-loop μ-loop
-add-if3-2 c = search needs
+add-same-base-2 : tie.Need-add-same-base-2 Inv-loop μ-loop
+add-same-base-2 c = search needs
 
-sub-if3-2 : tie.Need-sub-if3-2 Inv-loop μ-loop
-sub-if3-2 c = search needs
+sub-same-base-2 : tie.Need-sub-same-base-2 Inv-loop μ-loop
+sub-same-base-2 c = search needs
 
-shared-slice-read-if3-2 : tie.Need-shared-slice-read-if3-2 Inv-loop μ-loop
-shared-slice-read-if3-2 c = search needs
+shared-slice-read-same-base-2 : tie.Need-shared-slice-read-same-base-2 Inv-loop μ-loop
+shared-slice-read-same-base-2 c = search needs
+
+same-base-requires-2 : tie.Need-same-base-requires-2 Inv-loop μ-loop
+same-base-requires-2 c κs = search needs
 
 returns-3 : tie.Need-returns-3 Inv-loop μ-loop
 returns-3 c =
-    let l = c .before .before .before .before .loop in
-    agreed-is _ _ _ _ (l .k) (l .inv .1) (l .inv .2) (λ m e. c .if3 .taken (sym (letter-at _ _) ∙ e ∙ letter-at _ _))
+    let l = c .before .before .before .before .before .loop in
+    agreed-is _ _ _ _ (l .k) (l .inv .1) (l .inv .2)
+    (λ m. bases-differ _ _ _ (λ q. omega (arith, q)) _ _ (sym (byte-at _ _)) (sym (byte-at _ _)) _ (c .before .same-base2 .ensures) (not-true _ (c .if3 .taken)))
 
 add-k : tie.Need-add-k Inv-loop μ-loop
 add-k c = search needs
@@ -70,8 +82,12 @@ loop-less c = search needs
 
 loop-again : tie.Need-loop-again Inv-loop μ-loop
 loop-again c =
-    let l = c .before .before .before .before .loop in
-    (search needs, search needs, below-more _ _ (l .inv .2) (letter-at _ _ ∙ c .if3 .left ∙ sym (letter-at _ _)))
+    let l = c .before .before .before .before .before .loop in (
+      search needs,
+      search needs,
+      below-more _ _ (l .inv .2)
+          (bases-same _ _ _ (λ q. omega (arith, q)) _ _ (sym (byte-at _ _)) (sym (byte-at _ _)) _ (c .before .same-base2 .ensures) (not-false _ (c .if3 .left))),
+    )
 
 returns-4 : tie.Need-returns-4 Inv-loop μ-loop
 returns-4 c =
@@ -86,16 +102,18 @@ agree-spec =
     μ-loop
     returns
     add-other
-    letter-at-requires
-    letter-at-requires-2
+    byte-at-requires
+    byte-at-requires-2
+    same-base-requires
     returns-2
     loop-holds
-    add-if3
-    sub-if3
-    shared-slice-read-if3
-    add-if3-2
-    sub-if3-2
-    shared-slice-read-if3-2
+    add-same-base
+    sub-same-base
+    shared-slice-read-same-base
+    add-same-base-2
+    sub-same-base-2
+    shared-slice-read-same-base-2
+    same-base-requires-2
     returns-3
     add-k
     loop-less

@@ -18,15 +18,15 @@ sub-before c = search needs
 cast-before : tie.Need-cast-before
 cast-before c = search needs
 
-same-stretch-requires : tie.Need-same-stretch-requires
-same-stretch-requires c κs = search needs
+stand-again-requires : tie.Need-stand-again-requires
+stand-again-requires c κs = search needs
 
 returns-2 : tie.Need-returns-2
 unfolding leads
 returns-2 c =
     let a = c .before .before .before .args in
     let back : a .start - a .period + a .period ≡ a .start = omega arith in
-    rw (lt-leb (a .start) (a .period) (omega arith), c .same-stretch .ensures, back)
+    rw (lt-leb (a .start) (a .period) (omega arith), c .stand-again .ensures, back)
 
 pub is-leading-spec : {M : Type 1} → statement M
-is-leading-spec = tie.close (tie.spec returns sub-before cast-before same-stretch-requires returns-2)
+is-leading-spec = tie.close (tie.spec returns sub-before cast-before stand-again-requires returns-2)

@@ -4,8 +4,9 @@ use Prim.Native.Nat.{_-_, _≤_}
 use mathlib.Core.Path.{_≡_}
 use native.Mathlib.Omega.{arith}
 use borrow.Author.Needs.{needs}
-use Rattle.call_replays.specs.Letters.{Named}
-use Rattle.call_replays.proofs.Letters.{named-start, named-step, named-end, byte-is}
+use Rattle.call_replays.specs.Named.{Named}
+use Rattle.read_letters.proofs.Kept.{byte-is, seen-next}
+use Rattle.call_replays.proofs.Named.{named-start, named-step, named-end}
 use Rattle.call_replays.proofs.first_groups.Statement.{statement}
 use Rattle.call_replays.proofs.first_groups.Tie as tie
 
@@ -24,11 +25,19 @@ wide-requires c κs = search needs
 add-i : tie.Need-add-i Inv-loop μ-loop
 add-i c = omega arith
 
-shared-slice-read-first-with : tie.Need-shared-slice-read-first-with Inv-loop μ-loop
-shared-slice-read-first-with c = omega arith
+shared-slice-read-last-alike : tie.Need-shared-slice-read-last-alike Inv-loop μ-loop
+shared-slice-read-last-alike c = omega arith
 
-first-with-requires : tie.Need-first-with-requires Inv-loop μ-loop
-first-with-requires c κs = c .before .before .before .before .loop .inv .1 .seen-long
+last-alike-requires : tie.Need-last-alike-requires Inv-loop μ-loop
+last-alike-requires c κs = c .before .before .before .before .loop .inv .1 .met .long
+
+name-after-requires : tie.Need-name-after-requires Inv-loop μ-loop
+name-after-requires c κs =
+    let f = c .before in
+    let w = f .before .before .before in
+    let l = w .before .before .loop in
+    let m = seen-next _ _ (l .i) _ (byte-is _ _ _ (w .wide .ensures)) (l .inv .1 .met) _ _ (f .last-alike .ensures) (omega (arith, f .before .shared-slice-known2 .given (w .wide .result))) in
+    (omega (arith, m .0 .high), l .inv .1 .long)
 
 store-requires : tie.Need-store-requires Inv-loop μ-loop
 store-requires c κs = (omega arith, omega arith)
@@ -38,13 +47,13 @@ loop-less c = omega arith
 
 loop-again : tie.Need-loop-again Inv-loop μ-loop
 loop-again c =
-    let f = c .before .before in
+    let f = c .before .before .before .before in
     let w = f .before .before .before in
     let l = w .before .before .loop in
-    let e = f .first-with .ensures in (
+    let m = seen-next _ _ (l .i) _ (byte-is _ _ _ (w .wide .ensures)) (l .inv .1 .met) _ _ (f .last-alike .ensures) (omega (arith, f .before .shared-slice-known2 .given (w .wide .result))) in (
       omega arith,
-      rw (c .store .ensures, e .1, e .0)
-          (named-step _ _ _ (l .i) _ (byte-is _ _ _ (w .wide .ensures)) (omega (arith, f .before .shared-slice-known2 .given (w .wide .result))) (l .inv .1) (omega arith) (omega arith)),
+      rw (c .store .ensures, c .before .before .name-after .ensures)
+          (named-step _ _ _ _ (l .i) _ (m .0) (m .1) (l .inv .1) (omega arith) (omega arith)),
     )
 
 returns : tie.Need-returns Inv-loop μ-loop
@@ -52,7 +61,7 @@ returns c =
     let s = c .before .before .before in
     let e : c .before .loop .i ≡ s .args .n = omega arith in
     let N = rw e at (c .before .loop .inv .1) in
-    (N .name-long, named-end _ _ _ _ (s .pre .1) (s .pre .0) N)
+    (N .long, named-end _ _ _ _ (s .pre .1) (s .pre .0) N)
 
 pub first-groups-spec : {M : Type 1} → statement M
 first-groups-spec =
@@ -63,8 +72,9 @@ first-groups-spec =
     loop-holds
     wide-requires
     add-i
-    shared-slice-read-first-with
-    first-with-requires
+    shared-slice-read-last-alike
+    last-alike-requires
+    name-after-requires
     store-requires
     loop-less
     loop-again

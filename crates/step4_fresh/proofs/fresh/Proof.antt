@@ -1,9 +1,10 @@
 -- `fresh` meets its contract. The loop's invariant: the first i positions are done. The measure is what is left of the read. Assumes nothing.
 use Prim.Native.Nat.{_-_, _≤_}
-use mathlib.Core.Path.{_≡_, sym, _∙_}
+use mathlib.Core.Path.{_≡_}
 use native.Mathlib.Omega.{arith}
 use borrow.Author.Needs.{needs}
-use Rattle.step4_fresh.proofs.Begun.{Begun, begun-start, byte-is, join-asks, begun-next, begun-first, begun-end}
+use Rattle.read_letters.proofs.Kept.{byte-is, seen-next}
+use Rattle.step4_fresh.proofs.Begun.{Begun, begun-start, join-asks, begun-next, begun-first, begun-end}
 use Rattle.step4_fresh.proofs.fresh.Statement.{statement}
 use Rattle.step4_fresh.proofs.fresh.Tie as tie
 
@@ -20,27 +21,32 @@ loop-holds c =
 
 next-letter-requires : tie.Need-next-letter-requires Inv-loop μ-loop
 next-letter-requires c κs =
-    let b = c .before .before in
-    let l = b .before .before .before .before .loop in
-    let w = b .before .before .wide in
-    join-asks _ _ _ _ (l .i) _ (byte-is _ _ _ (w .ensures) ∙ sym (b .letter .ensures .0)) (l .inv .1) (omega arith) (omega arith) (omega (arith, c .before .if1 .taken))
+    let f = c .before .before in
+    let w = f .before .before .before in
+    let l = w .before .before .loop in
+    let m = seen-next _ _ (l .i) _ (byte-is _ _ _ (w .wide .ensures)) (l .inv .1 .met) _ _ (f .last-alike .ensures) (omega (arith, f .before .shared-slice-known2 .given (w .wide .result))) in
+    join-asks _ _ _ _ _ (l .i) _ (m .0) (m .1) (l .inv .1) (omega arith) (omega arith) (omega (arith, c .before .if1 .taken))
 
 loop-again-next : tie.Need-loop-again Inv-loop μ-loop
 loop-again-next c =
-    let b = c .before .before .before in
-    let l = b .before .before .before .before .loop in
-    let w = b .before .before .wide in
-    (omega arith, begun-next _ _ _ _ (l .i) _ (byte-is _ _ _ (w .ensures) ∙ sym (b .letter .ensures .0)) (l .inv .1) (omega arith) (omega arith) (omega (arith, c .before .before .if1 .taken)) _ (b .letter .ensures .1) (c .next-letter .ensures))
+    let f = c .before .before .before in
+    let w = f .before .before .before in
+    let l = w .before .before .loop in
+    let m = seen-next _ _ (l .i) _ (byte-is _ _ _ (w .wide .ensures)) (l .inv .1 .met) _ _ (f .last-alike .ensures) (omega (arith, f .before .shared-slice-known2 .given (w .wide .result))) in (
+      omega arith,
+      begun-next _ _ _ _ _ (l .i) _ (m .0) (m .1) (l .inv .1) (omega arith) (omega arith) (omega (arith, c .before .before .if1 .taken)) _ (c .next-letter .ensures),
+    )
 
 loop-again-first : tie.Need-loop-again-2 Inv-loop μ-loop
 loop-again-first c =
-    let b = c .before .before .before .before in
-    let l = b .before .before .before .before .loop in
-    let w = b .before .before .wide in
-    let e = c .first-letter .ensures in (
+    let f = c .before .before .before .before in
+    let w = f .before .before .before in
+    let l = w .before .before .loop in
+    let m = seen-next _ _ (l .i) _ (byte-is _ _ _ (w .wide .ensures)) (l .inv .1 .met) _ _ (f .last-alike .ensures) (omega (arith, f .before .shared-slice-known2 .given (w .wide .result))) in
+    let g = c .first-letter .ensures in (
       omega arith,
-      rw (e .0)
-          (begun-first _ _ _ _ (l .i) _ (byte-is _ _ _ (w .ensures) ∙ sym (b .letter .ensures .0)) (l .inv .1) (omega arith) (omega arith) _ (omega (arith, c .before .before .before .if1 .left)) (b .letter .ensures .1) (e .1) (e .2)),
+      rw (g .0)
+          (begun-first _ _ _ _ _ (l .i) _ (m .0) (m .1) (l .inv .1) (omega arith) (omega arith) _ (omega (arith, c .before .before .before .if1 .left)) (g .1) (g .2)),
     )
 
 returns : tie.Need-returns Inv-loop μ-loop
@@ -59,15 +65,11 @@ fresh-spec =
     (λ c κs. search needs)
     (λ c. omega arith)
     (λ c. omega arith)
-    (λ c κs. search needs)
-    (λ c. search needs)
-    (λ c. search needs)
-    (λ c. search needs)
-    (λ c. search needs)
+    (λ c κs. c .before .before .before .before .loop .inv .1 .met .long)
     next-letter-requires
     (λ c. omega arith)
     loop-again-next
-    (λ c κs. (omega arith, omega arith, c .before .before .before .before .before .before .before .loop .inv .1 .sound))
+    (λ c κs. (omega arith, omega arith, c .before .before .before .before .before .before .before .before .loop .inv .1 .sound))
     (λ c. omega arith)
     loop-again-first
     returns)
