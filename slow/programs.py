@@ -83,7 +83,8 @@ def index_calls():
     # document 02, item 1
     x, top64 = b"ACAACACA", 2 ** 64 - 1
     for read, mode, n, m in [(x, 0, 12, 16), (x, 0, 13, 15), (x, 0, 12, 12), (x, 0, 12, 11), (x, 0, 11, 16), (x, 0, 11, 11), (x, 2, 11, 3),
-                             (b"AAAA", 0, 9, 8), (b"AAAA", 0, 9, 4), (b"AAAA", 0, 9, 3), (b"AAAA", 1, 4, 4), (b"", 0, 0, 0), (b"", 1, 2, 3)]:
+                             (b"AAAA", 0, 9, 8), (b"AAAA", 0, 9, 4), (b"AAAA", 0, 9, 3), (b"AAAA", 1, 4, 4), (b"", 0, 0, 0), (b"", 1, 2, 3),
+                             (b"ACACNACAC", 0, 6, 4), (b"ACACNACAC", 0, 6, 3), (b"NNNN", 0, 0, 0), (b"nnnn", 0, 9, 4)]:
         yield both_sevens(read, mode, n, m)
     for l, m in [(R5, 13), (R5, 12), (R5, 11), (R5, 0), ([], 0), ([], 3), (R5[:1], 4), (R5[:2], 4), (R5[:10], 16), (R5[:11], 0),
                  ([3, 1, 2, 3, 1, 2], 8), ([1, 2, 2, 5, 1, 2], 8), ([5, 2, 2, 4, 2, 2], 0), ([1, 2, 2, 5, 1, 2, 4], 8),
@@ -101,13 +102,12 @@ def index_calls():
 def unread_calls():
     # document 02, item 2
     x, foreign, top32 = b"ACACNACAC", [1, 8, 1, 1, 8, 7, 3, 1, 1], 2 ** 32 - 1
-    for read, mode, n in [(b"NNNN", 0, 9), (b"NNNN", 1, 0), (b"nnnn", 0, 9), (b"nnnn", 1, 9), (b"NnNn", 0, 6), (x, 0, 7), (x, 0, 5), (x, 1, 6), (x, 2, 5),
-                          (b"NACAC", 0, 3), (b"ACACN", 0, 3), (b"ANCANC", 0, 3), (b"ANCANC", 0, 0), (b"NN", 0, 3), (b"N", 0, 3)]:
+    for read, mode, n in [(b"NNNN", 0, 0), (b"NNNN", 1, 2), (x, 0, 7), (x, 0, 5), (x, 1, 6), (b"nnnn", 0, 8)]:
         yield sevens("list", lambda out: answer_list(read, mode, out), n)
-    for read, w, n in [(x, 1, 10), (x, 2, 9), (x, 4, 9), (x, 9, 9), (x, 10, 9), (b"NNNN", 1, 4), (b"NNNN", 1, 3), (b"nnnn", 1, 4), (b"NACNACN", 3, 7)]:
+    for read, w, n in [(x, 2, 10), (b"NNNN", 1, 3)]:
         yield sevens("table", lambda out: answer_group_table(read, w, out), n)
-    for read, n in [(b"NNNN", 27), (b"NNNN", 26), (b"nnnn", 27), (x, 97)]:
-        yield sevens("log", lambda out: answer_log(read, out), n)
+    for n in (28, 26):
+        yield sevens("log", lambda out: answer_log(b"NNNN", out), n)
     own = flat(log(b"NNNN"))
     for read, l, w, n in [(b"NNNN", own, 1, 4), (b"NNNN", own, 2, 5), (b"NNNN", own, 3, 4), (b"nnnn", own, 2, 4), (b"NNNN", [], 2, 4), (b"nnnn", [], 2, 4),
                           (b"ANANANAN", foreign, 1, 8), (b"ANANANAN", foreign, 3, 8), (b"ANANANAN", foreign, 4, 8), (b"NNNNNNNN", foreign, 4, 8)]:
@@ -115,11 +115,6 @@ def unread_calls():
     for claim_of in [(x, 1, 2, 2), (x, 6, 2, 2), (x, 1, 2, 4), (x, 1, 5, 2), (x, 5, 1, 1), (b"NN", 1, 1, 2), (b"nn", 1, 1, 2), (b"N", 1, 1, 1), (b"ACNACN", 1, 3, 2),
                      (b"ACnACn", 1, 3, 2), (b"ANAN", 1, 2, 2), (b"NANA", 1, 2, 2), (b"ACNACA", 1, 3, 2), (b"NNNN", 1, 1, top32)]:
         yield claimed(*claim_of)
-    for read, mode, n, m in [(x, 0, 6, 4), (x, 0, 6, 3), (b"NNNN", 0, 0, 0), (b"nnnn", 0, 9, 4)]:
-        yield both_sevens(read, mode, n, m)
-    within, over = b"N" * 1000, b"N" * 1001
-    for number, value, _ in [answer_list(within, 0, [7] * 3), answer_log(within, [7] * 29970), answer_claim(within, 1, 500, 2), answer_list(over, 0, [7])]:
-        yield words("answer", [number, int(value)])
 
 def run_calls():
     return "".join([*short_calls(), *long_calls(), *byte_calls(), *index_calls(), *unread_calls()]).encode()

@@ -1,10 +1,44 @@
 // Runs the calls of document 02, item 1, at the edges of each refusal and on refusals in combination, with the slices before and after.
+ghost use Prim.Native.Nat.{_≤_};
+use run_prints::answer;
 use run_prints::answer_both;
 use run_prints::number;
+use run_prints::slice;
+use run_prints::slice_wide;
 use run_prints::word;
-use run_sevens::index_in;
-use run_sevens::list_index_in;
 use words_index::Looked;
+
+fn list_index_on(read: &[u8], mode: u32, out: &mut [u16], index: &mut [u64]) {
+    word(b"list_index\n");
+    slice(out);
+    slice_wide(index);
+    answer_both(call_answers::list_indexed(call_list_indexes::list_index(read, mode, out, index)));
+    slice(out);
+    slice_wide(index);
+}
+
+fn index_on(list: &[u16], index: &mut [u64]) {
+    word(b"index\n");
+    slice_wide(index);
+    answer(call_answers::indexed(call_indexes::index(list, index)));
+    slice_wide(index);
+}
+
+// the same on so many sevens
+fn list_index_in(read: &[u8], mode: u32, room: usize, beside: usize)
+    requires { ⌜ (room ≤ 13) × (beside ≤ 16) ⌝ }
+{
+    let mut out = [7u16; 13];
+    let mut index = [7u64; 16];
+    list_index_on(read, mode, &mut out[..room], &mut index[..beside]);
+}
+
+fn index_in(list: &[u16], beside: usize)
+    requires { ⌜ beside ≤ 16 ⌝ }
+{
+    let mut index = [7u64; 16];
+    index_on(list, &mut index[..beside]);
+}
 
 fn entry(place: usize, first: u64, lines: u64, largest: u64) {
     word(b"entry");
@@ -29,7 +63,7 @@ fn looked(a: Looked) {
 
 fn lookup_on(index: &[u64], period: u64) {
     word(b"lookup\n");
-    looked(lister::lookup(index, period));
+    looked(call_lookups::lookup(index, period));
 }
 
 fn both(read: &[u8]) {
@@ -49,6 +83,14 @@ fn both_short() {
     list_index_in(b"AAAA", 1, 4, 4);
     list_index_in(b"", 0, 0, 0);
     list_index_in(b"", 1, 2, 3);
+}
+
+// reads with unread bases (document 02, item 2), and with a small n
+fn both_unread() {
+    list_index_in(b"ACACNACAC", 0, 6, 4);
+    list_index_in(b"ACACNACAC", 0, 6, 3);
+    list_index_in(b"NNNN", 0, 0, 0);
+    list_index_in(b"nnnn", 0, 9, 4);
 }
 
 fn whole(list: &[u16]) {
@@ -106,7 +148,7 @@ fn lookups() {
 
 // the answer alone
 fn long_on(read: &[u8], mode: u32, out: &mut [u16], index: &mut [u64]) {
-    answer_both(call_answers::list_indexed(lister::list_index(read, mode, out, index)));
+    answer_both(call_answers::list_indexed(call_list_indexes::list_index(read, mode, out, index)));
 }
 
 fn long_within(read: &[u8]) {
@@ -132,6 +174,7 @@ fn limits() {
 pub fn run() {
     both(b"ACAACACA");
     both_short();
+    both_unread();
     lists();
     loose();
     lookups();

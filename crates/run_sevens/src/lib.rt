@@ -1,10 +1,8 @@
-// One call of each kind that writes, on a slice of so many sevens: the slice before, the answer in the documents' numbers, the slice after. A number
+// One call of each kind of document 01, on a slice of so many sevens: the slice before, the answer in the documents' numbers, the slice after. A number
 // written past the front, or a slice zeroed by mistake, is seen. A claim is printed with its motif.
 ghost use Prim.Native.Nat.{_≤_};
 use run_prints::answer;
-use run_prints::answer_both;
 use run_prints::slice;
-use run_prints::slice_wide;
 use run_prints::word;
 
 fn list_on(read: &[u8], mode: u32, out: &mut [u16]) {
@@ -42,22 +40,6 @@ pub fn claim_on(read: &[u8], start: u32, period: u32, copies: u32) {
     word(b"\n");
 }
 
-fn list_index_on(read: &[u8], mode: u32, out: &mut [u16], index: &mut [u64]) {
-    word(b"list_index\n");
-    slice(out);
-    slice_wide(index);
-    answer_both(call_answers::list_indexed(lister::list_index(read, mode, out, index)));
-    slice(out);
-    slice_wide(index);
-}
-
-fn index_on(list: &[u16], index: &mut [u64]) {
-    word(b"index\n");
-    slice_wide(index);
-    answer(call_answers::indexed(lister::index(list, index)));
-    slice_wide(index);
-}
-
 // on so many sevens
 pub fn list_in(read: &[u8], mode: u32, room: usize)
     requires { ⌜ room ≤ 14 ⌝ }
@@ -85,19 +67,4 @@ pub fn replay_in(read: &[u8], log: &[u16], width: u32, room: usize)
 {
     let mut out = [7u16; 9];
     replay_on(read, log, width, &mut out[..room]);
-}
-
-pub fn list_index_in(read: &[u8], mode: u32, room: usize, beside: usize)
-    requires { ⌜ (room ≤ 13) × (beside ≤ 16) ⌝ }
-{
-    let mut out = [7u16; 13];
-    let mut index = [7u64; 16];
-    list_index_on(read, mode, &mut out[..room], &mut index[..beside]);
-}
-
-pub fn index_in(list: &[u16], beside: usize)
-    requires { ⌜ beside ≤ 16 ⌝ }
-{
-    let mut index = [7u64; 16];
-    index_on(list, &mut index[..beside]);
 }

@@ -1,12 +1,12 @@
--- `run_sevens::index_in` meets its contract: the slice lent has as many sevens as are asked for. Assumes nothing.
+-- `run_indexes::index_in` meets its contract: the slice lent has as many sevens as are asked for. Assumes nothing.
 use Prim.Native.Nat.{ℕ}
 use mathlib.Core.Path.{sym}
 use native.Mathlib.Omega.{arith}
 use lib.ListN.{length-replicate}
 use lib.Seq.{length-take-le}
 use borrow.Author.Needs.{needs}
-use Rattle.run_sevens.proofs.index_in.Statement.{statement}
-use Rattle.run_sevens.proofs.index_in.Tie as tie
+use Rattle.run_indexes.proofs.index_in.Statement.{statement}
+use Rattle.run_indexes.proofs.index_in.Tie as tie
 
 slice-aggregate-index-on : tie.Need-slice-aggregate-index-on
 slice-aggregate-index-on c = sym (length-take-le _ _ (omega (arith, length-replicate {A = ℕ} 16 7)))

@@ -1,12 +1,12 @@
--- `run_sevens::list_index_in` meets its contract: the slices lent have as many sevens as are asked for. Assumes nothing.
+-- `run_indexes::list_index_in` meets its contract: the slices lent have as many sevens as are asked for. Assumes nothing.
 use Prim.Native.Nat.{ℕ}
 use mathlib.Core.Path.{sym}
 use native.Mathlib.Omega.{arith}
 use lib.ListN.{length-replicate}
 use lib.Seq.{length-take-le}
 use borrow.Author.Needs.{needs}
-use Rattle.run_sevens.proofs.list_index_in.Statement.{statement}
-use Rattle.run_sevens.proofs.list_index_in.Tie as tie
+use Rattle.run_indexes.proofs.list_index_in.Statement.{statement}
+use Rattle.run_indexes.proofs.list_index_in.Tie as tie
 
 slice-aggregate-list-index-on : tie.Need-slice-aggregate-list-index-on
 slice-aggregate-list-index-on c = sym (length-take-le _ _ (omega (arith, length-replicate {A = ℕ} 13 7)))
