@@ -2,20 +2,21 @@
 -- Assumes nothing.
 use Prim.Native.Nat.{ℕ, _+_, _≤_, _<_}
 use mathlib.Core.Path.{_≡_, sym, _∙_}
-use mathlib.Core.Logic.{_⊎_, inl, inr, ⊎-elim}
+use mathlib.Core.Logic.{⊎-elim}
 use mathlib.Core.List.{List}
 use native.Mathlib.Omega.{arith}
 use native.Mathlib.Nat.{eq-or-lt-of-le}
 use lib.ListN.{length, replicate}
 use borrow.Author.Tests.{lt-ltb, le-ltb}
 use Rattle.words.specs.Reads.{at, letter}
-use Rattle.words.specs.Groups.{Least, table}
+use Rattle.words.specs.Groups.{table}
 use Rattle.words.proofs.Tests.{lt-or-ge}
-use Rattle.words.proofs.Groups.{table-length, table-least, group-letter}
+use Rattle.words.proofs.Groups.{table-length}
 use Rattle.slots.specs.Slots.{put, view}
 use Rattle.slots.proofs.Laws.{put-length, put-same, put-other, view-is}
 use Rattle.read_letters.specs.Seen.{Latest, Seen}
 use Rattle.read_letters.proofs.Kept.{seen-start}
+use Rattle.read_letters.proofs.Joins.{last-joined, last-none}
 use Rattle.call_replays.specs.Named.{nameAfter, Named}
 
 module _ (name : List ℕ) (l i : ℕ) where
@@ -32,25 +33,11 @@ module _ (x name seen seen′ : List ℕ) (i l : ℕ) (last : Latest x i (letter
     (inside : i < length x) (few : i < 1000) where
   -- so it has its name, or is its own
   name-is : at (table x 1) (i + 1) ≡ nameAfter name l (i + 1)
-  name-is = go (lt-or-ge 0 l)
-    where
-      L : Least (table x 1)
-      L = table-least x 1
-
-      here : i + 1 ≤ length (table x 1)
-      here = omega (arith, table-length x 1)
-
-      go : (0 < l) ⊎ (l ≤ 0) → at (table x 1) (i + 1) ≡ nameAfter name l (i + 1)
-      go (inl h) =
-          sym (group-letter x l (i + 1) h (omega (arith, last .high)) (omega arith) (omega arith) .1 (last .same h)) ∙ sym (N .made l h (last .high)) ∙ sym (name-joined name l (i + 1) h)
-      go (inr h) =
-          ⊎-elim (λ q. q)
-          (λ m.
-          let low = L .low (i + 1) (omega arith) here in
-          absurd (last .free (at (table x 1) (i + 1)) (omega (arith, h, low)) (omega (arith, m))
-          (group-letter x (at (table x 1) (i + 1)) (i + 1) low (omega (arith, m)) (omega arith) (omega arith) .0 (L .own (i + 1) (omega arith) here))))
-          (eq-or-lt-of-le (L .high (i + 1) (omega arith) here))
-          ∙ sym (name-own name l (i + 1) h)
+  name-is =
+      ⊎-elim
+      (λ h. sym (last-joined x i l last (omega arith) h) ∙ sym (N .made l h (last .high)) ∙ sym (name-joined name l (i + 1) h))
+      (λ h. last-none x i l last (omega arith) (omega arith) ∙ sym (name-own name l (i + 1) h))
+      (lt-or-ge 0 l)
 
   pub named-step : Named x (put name (i + 1) (nameAfter name l (i + 1))) seen′ (i + 1)
   named-step =

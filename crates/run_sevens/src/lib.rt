@@ -33,13 +33,6 @@ fn replay_on(read: &[u8], log: &[u16], width: u32, out: &mut [u16]) {
     slice(out);
 }
 
-pub fn claim_on(read: &[u8], start: u32, period: u32, copies: u32) {
-    word(b"claim\n");
-    answer(call_answers::claimed(lister::claim(read, start, period, copies)));
-    word(lister::motif(read, start, period, copies));
-    word(b"\n");
-}
-
 // on so many sevens
 pub fn list_in(read: &[u8], mode: u32, room: usize)
     requires { ⌜ room ≤ 14 ⌝ }
@@ -67,4 +60,11 @@ pub fn replay_in(read: &[u8], log: &[u16], width: u32, room: usize)
 {
     let mut out = [7u16; 9];
     replay_on(read, log, width, &mut out[..room]);
+}
+
+pub fn claim_on(read: &[u8], start: u32, period: u32, copies: u32) {
+    word(b"claim\n");
+    answer(call_answers::claimed(lister::claim(read, start, period, copies)));
+    word(lister::motif(read, start, period, copies));
+    word(b"\n");
 }

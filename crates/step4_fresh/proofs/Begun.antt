@@ -17,7 +17,7 @@ use Rattle.words.specs.Reads.{at, letter}
 use Rattle.words.specs.Groups.{table, size}
 use Rattle.words.proofs.Tests.{lt-or-ge}
 use Rattle.words.proofs.Sums.{count-none, count-le}
-use Rattle.words.proofs.Groups.{table-length, table-least, group-letter}
+use Rattle.words.proofs.Groups.{table-length, table-least}
 use Rattle.words.proofs.Small.{all-small-at, all-small-length}
 use Rattle.slots.specs.Slots.{put, putSome}
 use Rattle.slots.proofs.Laws.{some-none, some-length, some-same, some-other, view-is}
@@ -25,6 +25,7 @@ use Rattle.refine.specs.Phases.{Clean}
 use Rattle.refine.proofs.Links.{Before, nearest-gap, before-back}
 use Rattle.read_letters.specs.Seen.{Latest, Seen}
 use Rattle.read_letters.proofs.Kept.{seen-start}
+use Rattle.read_letters.proofs.Joins.{last-joined, last-free, last-none}
 use Rattle.step1_rows.specs.Rows.{row, putAt, Long, NAME, SIZE, PREV, DIST, HEAD, AFTER, BEFORE, TAIL}
 use Rattle.step1_rows.proofs.Laws.{row-same, row-other, long-put}
 use Rattle.step2_bits.specs.Sets.{flags, Sound, Empty}
@@ -81,11 +82,7 @@ module _ (x seen seen′ : List ℕ) (a : List (List ℕ)) (small : List ℕ) (i
   -- it is the position before the next one
   before-is : Before t (i + 1) l
   before-is =
-      record {
-        low = omega (arith, last .high);
-        same = λ m. group-letter x l (i + 1) m (omega (arith, last .high)) (omega arith) inside .1 (last .same m);
-        free = λ k m d q. last .free k m (omega arith) (group-letter x k (i + 1) (omega arith) (omega arith) (omega arith) inside .0 q);
-      }
+      record { low = omega (arith, last .high); same = last-joined x i l last inside; free = λ k m d. last-free x i l last inside k m (omega arith) }
 
   -- so the distances are those of one position more
   near-here : 1 ≤ l → Near t (i + 1) l (i + 1 - l)
@@ -196,10 +193,8 @@ module _ (x seen seen′ : List ℕ) (a : List (List ℕ)) (small : List ℕ) (i
       let g = putAt f SIZE j 1 in
       let lf = long-put a NAME j j (B .long) in
       let m : j ≤ length t = omega (arith, table-length x 1) in
-      let L = table-least x 1 in
-      let first : at t j ≡ j =
-      ⊎-elim (λ q. q) (λ h. absurd (before-is .free (at t j) (omega (arith, L .low j (omega arith) m)) h (L .own j (omega arith) m))) (eq-or-lt-of-le (L .high j (omega arith) m)) in
-      let zero : at (row a SIZE) j ≡ 0 = B .counted j (omega arith) (omega arith) ∙ size-to-above t L i j (omega arith) (omega arith) in
+      let first : at t j ≡ j = last-none x i l last inside none in
+      let zero : at (row a SIZE) j ≡ 0 = B .counted j (omega arith) (omega arith) ∙ size-to-above t (table-least x 1) i j (omega arith) (omega arith) in
       let kept : (r : ℕ) → eqb SIZE r ≡ false → eqb NAME r ≡ false → row g r ≡ row a r =
       λ r h k. row-other f SIZE j 1 r h ∙ row-other a NAME j j r k in
       begun-more g small′ j first (omega arith) (omega arith)
