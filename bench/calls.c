@@ -34,6 +34,7 @@ static void lined(const uint8_t *x, size_t n)
 
 static void nothing(const uint8_t *x, size_t n) { (void)x, (void)n; }
 static void list(const uint8_t *x, size_t n) { sorunggyeo_list(x, n, 0, out, 3 * 10000); }
+static void runs(const uint8_t *x, size_t n) { sorunggyeo_runs(x, n, out, 3 * 10000); }
 static void table(const uint8_t *x, size_t n) { sorunggyeo_group_table(x, n, n / 2, out, MOST); }
 static void replay(const uint8_t *x, size_t n) { sorunggyeo_replay(x, n, log_, numbers, n / 2, out, MOST); }
 static void both(const uint8_t *x, size_t n) { sorunggyeo_list_index(x, n, 0, out, 3 * 10000, beside, 4 * SORUNGGYEO_PERIODS); }
@@ -43,7 +44,7 @@ static void lookup(const uint8_t *x, size_t n) { (void)x, (void)n, sorunggyeo_lo
 static void claim(const uint8_t *x, size_t n) { sorunggyeo_claim(x, n, 1, n / 2, 2); }
 
 static const struct { const char *name; void (*before)(const uint8_t *, size_t), (*call)(const uint8_t *, size_t); } calls[] = {
-    {"list", nothing, list}, {"table", nothing, table}, {"log", nothing, own}, {"replay", own, replay}, {"replay_all", all, replay},
+    {"list", nothing, list}, {"runs", nothing, runs}, {"table", nothing, table}, {"log", nothing, own}, {"replay", own, replay}, {"replay_all", all, replay},
     {"list_index", nothing, both}, {"list_index_exact", lined, both_exact}, {"index", lined, alone}, {"lookup", lined, lookup},
     {"claim", nothing, claim}};
 

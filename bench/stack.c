@@ -12,6 +12,7 @@ static uint64_t beside[4 * SORUNGGYEO_PERIODS];
 static size_t moves;
 
 static void list(void) { sorunggyeo_list(read, sizeof read, 0, out, 30000); }
+static void runs(void) { sorunggyeo_runs(read, sizeof read, out, 30000); }
 static void list_index(void) { sorunggyeo_list_index(read, sizeof read, 0, out, 30000, beside, 4 * SORUNGGYEO_PERIODS); }
 static void counted_first(void) { sorunggyeo_list_index(read, sizeof read, 0, out, 30000, beside, 8); }
 static void index_(void) { sorunggyeo_index(out, 6, beside, 4 * SORUNGGYEO_PERIODS); }
@@ -24,7 +25,7 @@ static void motif(void) { sorunggyeo_motif(read, sizeof read, 1, 2, 250); }
 static void next(void) { sorunggyeo_next(log_, 3 * moves, 0); }
 
 static const struct { const char *name; void (*call)(void); } calls[] = {
-    {"list", list}, {"list_index", list_index}, {"list_index, counted first", counted_first}, {"index", index_}, {"lookup", lookup},
+    {"list", list}, {"runs", runs}, {"list_index", list_index}, {"list_index, counted first", counted_first}, {"index", index_}, {"lookup", lookup},
     {"group_table", group_table}, {"log", make_log}, {"replay", replay}, {"claim", claim}, {"motif", motif}, {"next", next}};
 
 /* what a call leaves alone within NEAR bytes of the caller's frame is not seen */

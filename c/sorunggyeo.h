@@ -22,6 +22,7 @@ extern "C" {
 enum {
     SORUNGGYEO_MOST = 1000,       /* the most bytes that a read may have */
     SORUNGGYEO_LINE = 3,          /* a line of a list: start, period, copies */
+    SORUNGGYEO_RUN = 3,           /* a run: start, end, period */
     SORUNGGYEO_MOVE = 3,          /* a move of a log: width, name, position */
     SORUNGGYEO_ENTRY = 4,         /* an entry of a period index: period, place of its first line, number of lines, largest copy count */
     SORUNGGYEO_PERIODS = 500,     /* room that does for the entries of any read's list: top(1000) */
@@ -32,7 +33,7 @@ enum {
     SORUNGGYEO_OK = 0,
     SORUNGGYEO_TOO_LONG = 1,      /* the read has more than 1,000 bytes; the value is its length; nothing is changed */
     SORUNGGYEO_BAD_NUMBER = 2,    /* the mode or width is none; the value is that number; nothing is changed */
-    SORUNGGYEO_LIST_FULL = 3,     /* the list has room for fewer lines than there are; the value is the lines; the whole list is 0 */
+    SORUNGGYEO_LIST_FULL = 3,     /* the list has room for fewer lines, or runs, than there are; the value is how many there are; the whole list is 0 */
     SORUNGGYEO_TOO_SHORT = 4,     /* the log or table is too short; the value is the numbers needed; nothing is changed */
     SORUNGGYEO_BAD_ENTRY = 5,     /* the log is ill-formed; the value is the index of its first bad entry; nothing is changed */
     SORUNGGYEO_OUT_OF_PLACE = 6,  /* the list handed in is not strictly in order, or is cut; the value is the first line out of place; nothing is changed */
@@ -74,6 +75,10 @@ typedef struct {
 /* The list of the read's repeats to the front of `list`, all (mode 0) or only the leading ones (mode 1), by period, then start. The value
    is the number of lines. Refuses by 1, 2, 3. */
 sorunggyeo_answer sorunggyeo_list(const uint8_t *read, size_t n, uint32_t mode, uint16_t *list, size_t room);
+
+/* The runs of the read to the front of `runs`, by period, then start: each stretch at least two of its least periods long that cannot be stretched by a base on
+   either side with the same period. A run ends with its last base, partial copy and all. The value is the number of runs. Refuses by 1, 3. */
+sorunggyeo_answer sorunggyeo_runs(const uint8_t *read, size_t n, uint16_t *runs, size_t room);
 
 /* The name of each position's group at a width of 1 to n, its least position, to the front of `table`. The value is n. Refuses by 1, 2, 4. */
 sorunggyeo_answer sorunggyeo_group_table(const uint8_t *read, size_t n, uint32_t width, uint16_t *table, size_t room);

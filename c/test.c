@@ -1,9 +1,11 @@
 /* Runs the calls from C and prints what the slow program prints, for c/check to compare:
      test lists|leading|logs < READS           every read's list, leading repeats, or log
+     test runs < READS                         every read's runs
+     test two_letters                          the runs of all words of A and C up to 12 letters, summed up length by length
      test indexes < READS                      every read's period index, made with the list and from the list alone
      test tables TABLES < READS                every read's tables at the widths that the file TABLES has
      test calls                                what crates/run_calls prints, and the calls on empty slices that are null
-   Besides, no answer but one has a second value, in `indexes` each period is looked up, in `lists` each line is claimed and its motif taken, in `logs` the log is walked by the reader, and in
+   Besides, no answer but one has a second value, in `indexes` each period is looked up, in `lists` each line is claimed and its motif taken, in `runs` each is looked at base by base, in `logs` the log is walked by the reader, and in
    `tables` the replay of the read's own log must give the same table; what fails prints a line that no stored output has. */
 #include "sorunggyeo.h"
 #include <stdio.h>
@@ -80,6 +82,47 @@ static void print_list(size_t n, uint32_t mode)
         printf("%u %u %u\n", line[0], line[1], line[2]);
         claim_line(n, line[0], line[1], line[2]);
     }
+}
+
+/* p is a period of the stretch from a to b, positions from 1 */
+static int has_period(size_t a, size_t b, size_t p)
+{
+    for (size_t k = a; k + p <= b; k++)
+        if (read[k - 1] == 'N' || read[k - 1] != read[k + p - 1]) return 0;
+    return 1;
+}
+
+static void look_at_run(size_t n, size_t a, size_t b, size_t p)
+{
+    expect(1 <= a && a + 2 * p <= b + 1 && b <= n && has_period(a, b, p), "a run has its period, at least twice");
+    for (size_t d = 1; d < p; d++) expect(!has_period(a, b, d), "no smaller one");
+    expect(a == 1 || !has_period(a - 1, b, p), "and stops on its left");
+    expect(b == n || !has_period(a, b + 1, p), "and on its right");
+}
+
+static void print_runs(size_t n)
+{
+    sorunggyeo_answer a = one(sorunggyeo_runs(read, n, list, SORUNGGYEO_MOST * SORUNGGYEO_RUN));
+    printf("read %zu runs %llu\n", n, (unsigned long long)a.value);
+    for (size_t k = 0; k < a.value; k++) {
+        const uint16_t *run = list + SORUNGGYEO_RUN * k;
+        printf("%u %u %u\n", run[0], run[1], run[2]);
+        look_at_run(n, run[0], run[1], run[2]);
+    }
+}
+
+/* of all words of a length: how many runs they have, and their numbers summed up (FNV-1a) */
+static void two_letters(size_t n)
+{
+    uint32_t count = 0, sum = 2166136261u;
+    for (uint32_t word = 0; word < 1u << n; word++) {
+        for (size_t i = 0; i < n; i++) read[i] = word >> (n - 1 - i) & 1 ? 'C' : 'A';
+        size_t found = one(sorunggyeo_runs(read, n, list, SORUNGGYEO_MOST)).value;
+        count += found;
+        for (size_t k = 0; k < SORUNGGYEO_RUN * found; k++) sum = (sum ^ list[k]) * 16777619u;
+        sum *= 16777619u; /* and a 0 after each word */
+    }
+    printf("length %zu runs %u sum %u\n", n, count, sum);
 }
 
 /* one line for the moves of a width under a name */
@@ -171,6 +214,12 @@ static void list_on(const char *x, size_t n, uint32_t mode, size_t room)
 {
     begin("list", room);
     end(sorunggyeo_list((const uint8_t *)x, n, mode, slice, room), room);
+}
+
+static void runs_on(const char *x, size_t n, size_t room)
+{
+    begin("runs", room);
+    end(sorunggyeo_runs((const uint8_t *)x, n, slice, room), room);
 }
 
 static void table_on(const char *x, size_t n, uint32_t width, size_t room)
@@ -269,6 +318,15 @@ static void unread_calls(void)
     claim_on("NANA", 1, 2, 2), claim_on("ACNACA", 1, 3, 2), claim_on("NNNN", 1, 1, UINT32_MAX);
 }
 
+static void runs_calls(void)
+{
+    runs_on("ACACACA", 7, 4), runs_on("ACACACA", 7, 3), runs_on("ACACACA", 7, 2), runs_on("ACACACA", 7, 0);
+    runs_on("AACAACCACC", 10, 18), runs_on("AACAACCACC", 10, 17), runs_on("AAAA", 4, 5), runs_on("NNNN", 4, 0), runs_on("", 0, 2);
+    memset(read, 'A', WIDE);
+    const char *long_read = (const char *)read;
+    runs_on(long_read, 1000, 3), runs_on(long_read, 1000, 2), runs_on(long_read, 1001, 4), runs_on(long_read, 1001, 2);
+}
+
 /* a list of more lines than a u16 number can count: 70,000, of seven periods */
 static void long_list(void)
 {
@@ -343,6 +401,7 @@ static void null_calls(void)
     uint16_t names[4] = {7, 7, 7, 7};
     same(sorunggyeo_list(NULL, 0, 0, NULL, 0), 0, 0), same(sorunggyeo_list(NULL, 0, 2, NULL, 0), 2, 2);
     same(sorunggyeo_list(aaaa, 4, 0, NULL, 0), 3, 3), same(sorunggyeo_list(NULL, 0, 0, names, 4), 0, 0);
+    same(sorunggyeo_runs(NULL, 0, NULL, 0), 0, 0), same(sorunggyeo_runs(aaaa, 4, NULL, 0), 3, 1), same(sorunggyeo_runs(NULL, 0, names, 4), 0, 0);
     same(sorunggyeo_group_table(NULL, 0, 1, NULL, 0), 2, 1), same(sorunggyeo_group_table(aaaa, 4, 1, NULL, 0), 4, 4);
     same(sorunggyeo_log(NULL, 0, NULL, 0), 0, 0), same(sorunggyeo_log(aaaa, 1, NULL, 0), 0, 0), same(sorunggyeo_log(aaaa, 4, NULL, 0), 4, 27);
     same(sorunggyeo_replay(NULL, 0, NULL, 0, 1, NULL, 0), 2, 1), same(sorunggyeo_replay(aaaa, 4, NULL, 0, 1, NULL, 0), 4, 4);
@@ -370,6 +429,10 @@ int main(int argc, char **argv)
         while (next_read(&n)) print_list(n, 0);
     } else if (!strcmp(what, "leading")) {
         while (next_read(&n)) print_list(n, 1);
+    } else if (!strcmp(what, "runs")) {
+        while (next_read(&n)) print_runs(n);
+    } else if (!strcmp(what, "two_letters")) {
+        for (n = 0; n <= 12; n++) two_letters(n);
     } else if (!strcmp(what, "logs")) {
         while (next_read(&n)) print_log(n);
     } else if (!strcmp(what, "indexes")) {
@@ -379,7 +442,7 @@ int main(int argc, char **argv)
         if (!stored) return 1;
         print_tables(stored);
     } else if (!strcmp(what, "calls")) {
-        short_calls(), long_calls(), byte_calls(), index_calls(), unread_calls(), null_calls(), long_list();
+        short_calls(), long_calls(), byte_calls(), index_calls(), unread_calls(), runs_calls(), null_calls(), long_list();
     } else {
         return 1;
     }

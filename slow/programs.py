@@ -2,9 +2,9 @@
 
 import re
 from itertools import groupby
-from reads import Dice, DNA, every, few_unread, fibonacci, known
+from reads import Dice, DNA, every, few_unread, fibonacci, known, partial
 from rules import (LIMIT, LINES, answer_claim, answer_group_table, answer_index, answer_list, answer_list_index, answer_log,
-                   answer_replay, claim, entries, flat, groups_of, lines_of_groups, log, lookup, moves, printed, replay, repeats, small, table, top)
+                   answer_replay, answer_runs, claim, entries, flat, groups_of, lines_of_groups, log, lookup, moves, printed, replay, repeats, runs, small, table, top)
 
 def text(reads):
     return b"".join(x + b"\n" for x in reads)
@@ -116,14 +116,20 @@ def unread_calls():
                      (b"ACnACn", 1, 3, 2), (b"ANAN", 1, 2, 2), (b"NANA", 1, 2, 2), (b"ACNACA", 1, 3, 2), (b"NNNN", 1, 1, top32)]:
         yield claimed(*claim_of)
 
+def runs_calls():
+    # document 02, item 3
+    for read, n in [(b"ACACACA", 4), (b"ACACACA", 3), (b"ACACACA", 2), (b"ACACACA", 0), (b"AACAACCACC", 18), (b"AACAACCACC", 17), (b"AAAA", 5), (b"NNNN", 0), (b"", 2),
+                    (b"A" * 1000, 3), (b"A" * 1000, 2), (b"A" * 1001, 4), (b"A" * 1001, 2)]:
+        yield sevens("runs", lambda out: answer_runs(read, out), n)
+
 def run_calls():
-    return "".join([*short_calls(), *long_calls(), *byte_calls(), *index_calls(), *unread_calls()]).encode()
+    return "".join([*short_calls(), *long_calls(), *byte_calls(), *index_calls(), *unread_calls(), *runs_calls()]).encode()
 
 def row(word, numbers):
     return "  %s %s\n" % (word, " ".join(map(str, numbers)))
 
-def view_width(names, moved, lines):
-    # one width at the bench: the groups, the moves, the lines
+def view_width(names, moved, lines, maximal):
+    # one width at the bench: the groups, the moves, the lines, the runs
     groups = groups_of(names)
     for s, some in sorted(groups.items()):
         if len(some) > 1:
@@ -135,6 +141,8 @@ def view_width(names, moved, lines):
         yield row("moved under %d:" % s, [j for _, _, j in some])
     for line in lines:
         yield row("repeat", line)
+    for run in maximal:
+        yield row("run", run)
 
 def shown(x):
     # what a terminal could obey, what is blank or beyond ASCII, and the backslash, by its number
@@ -144,12 +152,12 @@ def view(x):
     lines = repeats(x, 0) if len(x) <= LIMIT else []
     if len(x) > LIMIT: return b"refused 1 %d\n" % len(x)
     if len(lines) > LINES: return b"refused 3 %d\n" % len(lines)
-    own, text, differ = log(x), [], []
+    own, maximal, text, differ = log(x), runs(x), [], []
     widths = range(1, top(len(x)) + 1) if x else []
     for w in widths:
         names = replay(x, flat(own), w)
         part = [line for line in lines if line[1] == w]
-        text += ["width %d\n" % w, *view_width(names, [move for move in own if move[0] == w], part)]
+        text += ["width %d\n" % w, *view_width(names, [move for move in own if move[0] == w], part, [run for run in maximal if run[2] == w])]
         if part != lines_of_groups(names, w):
             differ.append(w)
     last = "differ at width %d" % differ[0] if differ else "agree at every width"
@@ -157,7 +165,7 @@ def view(x):
 
 def bench_view():
     dice = Dice(7019)
-    reads = known() + few_unread() + [fibonacci()[7], dice.word(DNA, 40), dice.word(DNA, 57), b"\0\xff\0\0\xff\0\xff\0",
+    reads = known() + few_unread() + partial() + [fibonacci()[7], dice.word(DNA, 40), dice.word(DNA, 57), b"\0\xff\0\0\xff\0\xff\0",
                        b"\x1b[2J\x1b[2J\t\r \x7f\x9b\\x1b~!", b"", b"T",
                        b"A" * 1001, b"ACGTTACGTT" * 250]
     last = b"ACGTACG"

@@ -1,4 +1,4 @@
-# The reads that the stored results are made from: known, Fibonacci words, seeded ones, and reads with unread bases.
+# The reads that the stored results are made from: known, Fibonacci words, seeded ones, reads with unread bases and with partial copies.
 
 ROUNDS = 33  # reads of each seeded kind
 DNA = b"ACGT"
@@ -108,5 +108,9 @@ def unread():
     return (few_unread() + [x for whole in (b"AAAAA", b"ACACACAC", b"ACGACGACG", b"ACAACACA") for x in at_every_place(whole)]
             + [several_unread(dice) for _ in range(ROUNDS)] + [bytes(long), b"AC" * 249 + b"NA" + b"AC" * 250, b"N" * 1000])
 
+# document 02, item 3: document 004's word, runs of one period that overlap by one base or more, two periods and a part, a part of one base, an end in byte 0
+def partial():
+    return [b"1011010110110", b"AACAACCACC", b"AACAACACAC", b"ACACA", b"ACGACGA", b"GACACACT", b"ACGTACGTACG", b"ACACGACAC", b"CACA\0\0", b"A\0A\0A\0"]
+
 def every():
-    return known() + fibonacci() + seeded() + unread()
+    return known() + fibonacci() + seeded() + unread() + partial()

@@ -128,6 +128,28 @@ def lookup(numbers, period):
             return (k, *numbers[4 * k + 1:4 * k + 4])
     return None
 
+def least_periods(x):
+    # of each prefix of x: its length less that of the longest border, which is found from the borders before it
+    border, periods = [0] * len(x), []
+    for k in range(len(x)):
+        b = border[k - 1] if k else 0
+        while b and x[b] != x[k]:
+            b = border[b - 1]
+        border[k] = b + 1 if k and x[b] == x[k] else 0
+        periods.append(k + 1 - border[k])
+    return periods
+
+def runs(x):
+    # document 02, item 3, by document 004's (i) and (ii): least periods of the stretches from a, and of those from a - 1
+    x, found, before = marks(x), [], []
+    for a in range(1, len(x) + 1):
+        here = least_periods(x[a - 1:])  # here[k] is of the stretch from a to a + k
+        for k, p in enumerate(here):
+            if 2 * p <= k + 1 and (a == 1 or before[k + 1] > p) and (k + 1 == len(here) or here[k + 1] > p):
+                found.append((a, a + k, p))
+        before = here
+    return sorted(found, key=lambda line: (line[2], line[0]))
+
 def front(numbers, buffer):
     return numbers + buffer[len(numbers):]
 
@@ -138,6 +160,13 @@ def answer_list(x, mode, buffer):
     if n > LIMIT: return 1, n, buffer
     if mode not in (0, 1): return 2, mode, buffer
     lines = repeats(x, mode)
+    if len(buffer) // 3 < len(lines): return 3, len(lines), [0] * len(buffer)
+    return 0, len(lines), front(flat(lines), buffer)
+
+def answer_runs(x, buffer):
+    n = len(x)
+    if n > LIMIT: return 1, n, buffer
+    lines = runs(x)
     if len(buffer) // 3 < len(lines): return 3, len(lines), [0] * len(buffer)
     return 0, len(lines), front(flat(lines), buffer)
 

@@ -5,5 +5,4 @@ pub mod Turns
 pub mod Agree
 pub mod Parts
 pub mod Cuts
-pub mod OwnRows
 pub mod Settled

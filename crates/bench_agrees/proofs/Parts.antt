@@ -1,5 +1,5 @@
 -- A list of rows of c numbers that is gathered by width, each row holding its width as number j: the part that the code cuts out for a width
--- is that width's own list, whole. One law for a log and a list. Assumes nothing.
+-- is that width's own list, whole. One law for a log, a list and the runs. Assumes nothing.
 use Prim.Native.Nat.{ℕ, zero, suc, _+_, _-_, _*_, _≤_, _<_}
 use mathlib.Core.Path.{_≡_, refl, sym, ap, _∙_}
 use mathlib.Core.Logic.{⊎-elim}
@@ -15,7 +15,7 @@ use Rattle.words.proofs.Tests.{lt-or-ge}
 use Rattle.words.proofs.Ranges.{gather-parts, gather-more}
 use Rattle.words.proofs.Rows.{Full, rows-none, rows-times, rows-append}
 use Rattle.words.proofs.Searches.{Missed, first-ended, first-hit}
-use Rattle.bench_agrees.specs.Parts.{differs, partEnd}
+use Rattle.bench_agrees.specs.Parts.{differs, partEnd, partFrom}
 use Rattle.bench_agrees.proofs.Rows.{differs-yes, differs-no}
 
 -- the lists of the widths before w, and of those after it up to n
@@ -120,10 +120,6 @@ module _ (c j : ℕ) (inside : j < c) where
             rows-before,
           )
 
-      -- the place where they start lies in the list
-      pub part-starts : from ≤ rows c (gather f n 1)
-      part-starts = omega (arith, rows-all)
-
       cell-after : (k i : ℕ) → i ≡ from + k → cell c (gather f n 1) i j ≡ cell c (f w ++ behind f n w) k j
       cell-after k i e =
           ap (λ (l : List ℕ). cell c l i j) (gather-at f n w low high)
@@ -157,18 +153,29 @@ module _ (c j : ℕ) (inside : j < c) where
           (λ l. first-ended p d from (from + rows c (f w)) missed (omega (arith, rows-all)))
           (lt-or-ge 0 (rows c (behind f n w)))
 
-      -- where the rows of the width end
-      pub part-end : c * partEnd c (gather f n 1) j w from ≡ length (gather f w 1)
-      part-end =
+      ended : c * partEnd c (gather f n 1) j w from ≡ length (gather f w 1)
+      ended =
           ap (λ (v : ℕ). c * v) end-found
           ∙ omega (arith, start, own w .full, length-append (before f w) (f w), ap length (gather-to f w low))
 
-      -- and what they are
-      pub part-is : part c (gather f n 1) from (partEnd c (gather f n 1) j w from) ≡ f w
-      unfolding part
-      part-is =
+      cut : partFrom c (gather f n 1) j w from ≡ f w
+      unfolding partFrom part
+      cut =
           let d : ℕ = c * partEnd c (gather f n 1) j w from - c * from in
-          let size : length (f w) ≡ d = omega (arith, start, part-end, length-append (before f w) (f w), ap length (gather-to f w low)) in
+          let size : length (f w) ≡ d = omega (arith, start, ended, length-append (before f w) (f w), ap length (gather-to f w low)) in
           ap (λ (l : List ℕ). take d (drop (c * from) l)) (gather-at f n w low high)
           ∙ ap (take d) (drop-at (before f w) (f w ++ behind f n w) (c * from) (sym start))
           ∙ take-at (f w) (behind f n w) d size
+
+      module _ {l : List ℕ} (is : l ≡ gather f n 1) where
+        -- the place where the rows of the width start lies in the list,
+        pub part-starts : from ≤ rows c l
+        part-starts = rw is (omega (arith, rows-all))
+
+        -- what they are,
+        pub part-is : partFrom c l j w from ≡ f w
+        part-is = rw is cut
+
+        -- and where the next ones start
+        pub part-next : c * (from + rows c (partFrom c l j w from)) ≡ length (gather f w 1)
+        part-next = rw part-is (omega (arith, start, own w .full, length-append (before f w) (f w), ap length (gather-to f w low)))

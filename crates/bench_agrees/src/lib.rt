@@ -1,23 +1,24 @@
 // The bench's own check that the list's lines of one period are those that the groups of that width give, code apart from the lister's; and
-// where the rows of one width end in a log or a list. Each function promises what its definition in specs/ says, for every slice.
+// the rows of one width in a log, a list or the runs. Each function promises what its definition in specs/ says, for every slice.
 ghost use mathlib.Core.Path.{_≡_};
 ghost use Prim.Native.Nat.{_+_, _≤_, _<_};
 ghost use lib.ListN.{length};
 ghost use Rattle.words.specs.Rows.{rows};
 ghost use Rattle.words.specs.Groups.{gap as distance};
 ghost use Rattle.bench_links.specs.Links.{Nexts};
-ghost use Rattle.bench_agrees.specs.Parts.{partEnd};
+ghost use Rattle.bench_agrees.specs.Parts.{partEnd, partFrom};
 ghost use Rattle.bench_agrees.specs.Agreement.{copiesIn, agreesAt, Onward};
 use bench_links::link;
 use bench_links::next_of;
 use row_cells::cell;
 use row_cells::count;
+use row_cells::part;
 use row_lines::is_line;
 use row_lines::line_size;
 use slots::wide;
 
 // the first row of c numbers, from a row on, whose number j is not w: where a log's width ends, or a list's period
-pub fn part_end(list: &[u16], c: usize, j: usize, w: usize, from: usize) -> usize
+fn part_end(list: &[u16], c: usize, j: usize, w: usize, from: usize) -> usize
     requires { ⌜ (j < c) × (from ≤ rows c (now list)) ⌝ }
     ensures { λ r. ⌜ r ≡ partEnd c (now (list .entry)) j w from ⌝ }
 {
@@ -30,6 +31,15 @@ pub fn part_end(list: &[u16], c: usize, j: usize, w: usize, from: usize) -> usiz
         k += 1;
     }
     k
+}
+
+// the rows from a row on, up to that one
+pub fn part_from<'a>(list: &'a [u16], c: usize, j: usize, w: usize, from: usize) -> &'a [u16]
+    requires { ⌜ (j < c) × (from ≤ rows c (now list)) ⌝ }
+    ensures { λ r. ⌜ now r ≡ partFrom c (now (list .entry)) j w from ⌝ }
+{
+    let end = part_end(list, c, j, w, from);
+    part(list, c, from, end)
 }
 
 // the distance from position i to the next position of its group, 0 if there is none

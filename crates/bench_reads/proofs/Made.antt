@@ -1,5 +1,5 @@
--- What was heard of a line, and what the log call made of its read: on success the front of the slice is the read's list or log, whole, and a read of at
--- most 1,000 bytes always has room for its log. Assumes nothing.
+-- What was heard of a line, and what the log call and the runs call made of its read: on success the front of the slice is the read's list, log or runs, whole. A
+-- read of at most 1,000 bytes always has room for its log, and where its list has room, its runs have. Assumes nothing.
 use Prim.Native.Nat.{ℕ, zero, suc, _+_, _-_, _*_, _^_, _≤_, _<_}
 use mathlib.Core.Path.{_≡_, refl, sym, ap, _∙_}
 use mathlib.Core.Logic.{_≢_}
@@ -18,8 +18,8 @@ use Rattle.words.specs.Lists.{lineSize, linesAt, lines, lineCount, inMode}
 use Rattle.words.specs.Moves.{moveSize, log, log2, M}
 use Rattle.words.specs.declared.Listed.{Listed}
 use Rattle.words.specs.Answers.{Answer, success, listedSays}
-use Rattle.words.specs.Calls.{refuse, tooLong, afterwards, logAnswer, logLeaves}
-use Rattle.words.proofs.Rows.{rows-times}
+use Rattle.words.specs.Calls.{refuse, tooLong, afterwards, listAfterwards, logAnswer, logLeaves}
+use Rattle.words.proofs.Rows.{Full, rows-times}
 use Rattle.words.proofs.MoveLayout.{move-some}
 use Rattle.words.proofs.LineLayout.{line-some}
 use Rattle.words.proofs.Lists.{lines-full}
@@ -27,6 +27,11 @@ use Rattle.words.proofs.Lines.{lines-top}
 use Rattle.words.proofs.Room.{log-length}
 use Rattle.words.proofs.Sizes.{room-few}
 use Rattle.words.proofs.Afterwards.{front}
+use Rattle.words_runs.specs.Runs.{runSize, runs, runCount}
+use Rattle.words_runs.specs.Calls.{runsAnswer, runsLeaves}
+use Rattle.words_runs.proofs.RunLayout.{run-some}
+use Rattle.words_runs.proofs.Lists.{runs-full}
+use Rattle.words_runs.proofs.Fewer.{runs-no-more}
 use Rattle.call_answers.specs.declared.Answer.{Answer as Plain}
 use Rattle.call_answers.specs.Plain.{plain}
 use Rattle.call_answers.proofs.One.{listed-one}
@@ -45,17 +50,22 @@ use Rattle.bench_widths.proofs.Reaching.{widths-top, widths-none}
 use Rattle.bench_reads.specs.Views.{readView, viewText, viewed}
 use Rattle.bench_reads.specs.Steps.{Viewed}
 
--- the front of a slice
-front-takes : (made old : List ℕ) (n : ℕ) → length made ≡ n → (take n (front made old) ≡ made) × (n ≤ length (front made old))
-front-takes made old n e = (take-at made (drop (length made) old) n e, omega (arith, e, length-append made (drop (length made) old)))
+-- rows of c numbers that a call made: where it says how many, the front of the slice is all of them
+module _ (c : ℕ) (own out : List ℕ) (full : Full c own) {a : Answer} {made : List ℕ} (says : a ≡ success (rows c own)) (left : made ≡ front own out) {k : ℕ}
+    (told : k ≡ plain a .value) where
+  made-size : length own ≡ c * k
+  unfolding plain success
+  made-size = full ∙ ap (λ (v : ℕ). c * v) (sym (told ∙ ap (λ (b : Answer). plain b .value) says))
 
--- ---- the log
+  made-whole : (take (c * k) made ≡ own) × (c * k ≤ length made)
+  made-whole = (ap (take (c * k)) left ∙ take-at own (drop (length own) out) (c * k) made-size, omega (arith, ap length left, made-size, length-append own (drop (length own) out)))
+
+-- ---- the rooms: the only place where the sizes of a line, of a move and of a run are numbers
 
 most-moves : M most ≡ 9990
 unfolding M log2 first
 most-moves = refl
 
--- the rooms that are made: the only place where the sizes of a line and of a move are numbers
 pub log-room : moveSize * M most ≤ length (replicate {A = ℕ} 29970 0)
 unfolding moveSize
 log-room = omega (arith, most-moves, length-replicate {A = ℕ} 29970 0)
@@ -64,29 +74,39 @@ pub list-room : length (replicate {A = ℕ} 30000 0) ≡ lineSize * 10000
 unfolding lineSize
 list-room = length-replicate {A = ℕ} 30000 0
 
+pub runs-room : length (replicate {A = ℕ} 30000 0) ≡ runSize * 10000
+unfolding runSize
+runs-room = length-replicate {A = ℕ} 30000 0
+
+-- ---- the log and the runs
+
 -- room for the log of the longest read is room for the log of any
 enough : (n : ℕ) → n ≤ most → moveSize * M n ≤ moveSize * M most
 unfolding M
 enough zero h = mul-le-mul-left moveSize (omega arith)
 enough (suc n) h = mul-le-mul-left moveSize (omega (arith, room-few (suc n) (omega arith) h, most-moves))
 
-module _ (x out : List ℕ) (few : length x ≤ most) (room : moveSize * M most ≤ length out) {a : Answer} {made : List ℕ}
-    (says : a ≡ logAnswer x out) (left : made ≡ logLeaves x out) {k : ℕ} (told : k ≡ plain a .value) where
-  done-log : (logAnswer x out ≡ success (rows moveSize (log x))) × (logLeaves x out ≡ front (log x) out)
-  unfolding logAnswer logLeaves afterwards refuse tooLong success
-  done-log = let r = le-ltb (length out) (moveSize * M (length x)) (omega (arith, enough (length x) few)) in (rw (le-ltb most (length x) few, r), rw (le-ltb most (length x) few, r))
+log-full : (x : List ℕ) → Full moveSize (log x)
+log-full x = log-length x ∙ ap (λ (v : ℕ). moveSize * v) (sym (rows-times moveSize (log x) _ move-some (log-length x)))
 
-  log-size : length (log x) ≡ moveSize * k
-  unfolding plain success
-  log-size =
-      let e : k ≡ rows moveSize (log x) = told ∙ ap (λ (v : Answer). plain v .value) (says ∙ done-log .0) in
-      log-length x ∙ ap (λ (v : ℕ). moveSize * v) (sym (e ∙ rows-times moveSize (log x) _ move-some (log-length x)))
+log-done : (x out : List ℕ) → length x ≤ most → moveSize * M most ≤ length out → (logAnswer x out ≡ success (rows moveSize (log x))) × (logLeaves x out ≡ front (log x) out)
+unfolding logAnswer logLeaves afterwards refuse tooLong success
+log-done x out few room =
+    let r = le-ltb (length out) (moveSize * M (length x)) (omega (arith, enough (length x) few)) in
+    (rw (le-ltb most (length x) few, r), rw (le-ltb most (length x) few, r))
 
-  pub log-front : take (moveSize * k) made ≡ log x
-  log-front = ap (take (moveSize * k)) (left ∙ done-log .1) ∙ front-takes (log x) out (moveSize * k) log-size .0
+runs-done : (x out : List ℕ) → length x ≤ most → length out ≡ runSize * 10000 → lineCount x (inMode x 0) ≤ 10000 → (runsAnswer x out ≡ success (rows runSize (runs x))) × (runsLeaves x out ≡ front (runs x) out)
+unfolding runsAnswer runsLeaves listAfterwards afterwards refuse tooLong success runCount
+runs-done x out few room fits =
+    let r = le-ltb (rows runSize out) (rows runSize (runs x)) (omega (arith, runs-no-more x, rows-times runSize out 10000 run-some room)) in
+    (rw (le-ltb most (length x) few, r), rw (le-ltb most (length x) few, r))
 
-  pub log-inside : moveSize * k ≤ length made
-  log-inside = omega (arith, ap length (left ∙ done-log .1), front-takes (log x) out (moveSize * k) log-size .1)
+module _ (x out : List ℕ) (few : length x ≤ most) {a : Answer} {made : List ℕ} {k : ℕ} (told : k ≡ plain a .value) where
+  pub log-whole : moveSize * M most ≤ length out → a ≡ logAnswer x out → made ≡ logLeaves x out → (take (moveSize * k) made ≡ log x) × (moveSize * k ≤ length made)
+  log-whole room says left = let D = log-done x out few room in made-whole moveSize (log x) out (log-full x) (says ∙ D .0) (left ∙ D .1) told
+
+  pub runs-whole : length out ≡ runSize * 10000 → lineCount x (inMode x 0) ≤ 10000 → a ≡ runsAnswer x out → made ≡ runsLeaves x out → (take (runSize * k) made ≡ runs x) × (runSize * k ≤ length made)
+  runs-whole room fits says left = let D = runs-done x out few room fits in made-whole runSize (runs x) out (runs-full x) (says ∙ D .0) (left ∙ D .1) told
 
 -- ---- the list
 
@@ -137,17 +157,20 @@ module _ {line : List ℕ} {len : ℕ} {list : List ℕ} {a : Answer} {made : Li
     pub list-few : length x ≤ most
     list-few = omega (arith, line-few, length-take-le len line (omega (arith, line-few)))
 
-    list-size : length (lines x (inMode x 0)) ≡ lineSize * v
-    unfolding lineCount success
-    list-size =
-        lines-full x (inMode x 0)
-        ∙ ap (λ (b : Answer). lineSize * getD (b .values) 0 0) (sym (done long m H (number-is ∙ z) .0) ∙ told)
+    value-is : v ≡ plain a .value
+    unfolding plain
+    value-is = sym (ap (λ (b : Answer). plain b .value) told)
 
-    pub list-front : take (lineSize * v) made ≡ lines x (inMode x 0)
-    list-front = ap (take (lineSize * v)) (done long m H (number-is ∙ z) .2) ∙ front-takes (lines x (inMode x 0)) list (lineSize * v) list-size .0
+    listed-done : (a ≡ success (rows lineSize (lines x (inMode x 0)))) × (lineCount x (inMode x 0) ≤ rows lineSize list) × (made ≡ front (lines x (inMode x 0)) list)
+    unfolding lineCount
+    listed-done = done long m H (number-is ∙ z)
 
-    pub list-inside : lineSize * v ≤ length made
-    list-inside = omega (arith, ap length (done long m H (number-is ∙ z) .2), front-takes (lines x (inMode x 0)) list (lineSize * v) list-size .1)
+    pub list-whole : (take (lineSize * v) made ≡ lines x (inMode x 0)) × (lineSize * v ≤ length made)
+    list-whole = made-whole lineSize (lines x (inMode x 0)) list (lines-full x (inMode x 0)) (listed-done .0) (listed-done .2) value-is
+
+    -- there are no more lines than the slice has room for
+    pub lines-few : length list ≡ lineSize * 10000 → lineCount x (inMode x 0) ≤ 10000
+    lines-few room = omega (arith, listed-done .1, rows-times lineSize list 10000 line-some room)
 
 -- ---- the verdict
 

@@ -1,9 +1,9 @@
-// A line at the bench: the list and the log of its read are made, and from them its view is collected, or the refusal of its list.
+// A line at the bench: the list, the log and the runs of its read are made, and from them its view is collected, or the refusal of its list.
 ghost use mathlib.Core.Path.{_≡_};
 ghost use Prim.Native.Nat.{_*_, _≤_};
 ghost use lib.ListN.{length, take};
 ghost use Rattle.words.specs.Reads.{most};
-ghost use Rattle.words.specs.Lists.{lineSize, lines, inMode};
+ghost use Rattle.words.specs.Lists.{lineSize, lines, lineCount, inMode};
 ghost use Rattle.bench_shows.specs.Collecting.{Roomy, Collects};
 ghost use Rattle.bench_reads.specs.Views.{readView};
 ghost use Rattle.bench_reads.specs.Steps.{Viewed};
@@ -15,19 +15,24 @@ use bench_widths::show_widths;
 use bench_widths::widths;
 use row_lines::line_size;
 use row_moves::move_size;
+use row_runs::run_size;
 use text_outs::Out;
 
-// shows a read whose list of `count` lines is made; the log has room for that of any read
+// shows a read whose list of `count` lines is made; the log has room for that of any read, and no read has more runs than lines
 fn show_read(read: &[u8], list: &[u16], count: usize, buf: &mut [u8], start: Out) -> Out
-    requires { ⌜ (length (now read) ≤ most) × (lineSize * count ≤ length (now list)) × (take (lineSize * count) (now list) ≡ lines (now read) (inMode (now read) 0)) × Roomy (now buf) (start .used) ⌝ }
+    requires { ⌜ (length (now read) ≤ most) × (lineSize * count ≤ length (now list)) × (take (lineSize * count) (now list) ≡ lines (now read) (inMode (now read) 0))
+        × (lineCount (now read) (inMode (now read) 0) ≤ 10000) × Roomy (now buf) (start .used) ⌝ }
     ensures { λ r. ⌜ Collects (now (buf .entry)) start (readView (now (read .entry))) (now (buf .exit)) r ⌝ }
 {
     let mut log = [0u16; 29970];
     let found = call_answers::logged(call_logs::log(read, &mut log));
     let moves = move_size() * found.value as usize;
+    let mut runs = [0u16; 30000];
+    let maximal = call_answers::runs_listed(call_runs::runs(read, &mut runs));
+    let ran = run_size() * maximal.value as usize;
     let size = line_size() * count;
     let o = collect_head(read, buf, start);
-    let p = show_widths(read, &log[..moves], &list[..size], buf, o);
+    let p = show_widths(read, &log[..moves], &list[..size], &runs[..ran], buf, o);
     let agree = p.listed == count;
     let out = p.out;
     collect_verdict(

@@ -8,7 +8,7 @@ use Rattle.text_outs.specs.declared.Out.{Out}
 
 -- room for the text of any width of a read, in bytes
 abbrev pub longest : ℕ
-longest = 120000
+longest = 170000
 
 -- the buffer has room for any text, and what is collected lies in it
 pub record Roomy (buf : List ℕ) (used : ℕ) : Type 0 where

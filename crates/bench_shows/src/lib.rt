@@ -1,5 +1,5 @@
 // One width of a read shown from its table, and the other lines of the view: each text is collected behind what was collected before, once
-// there is room for the longest one. `show_table` cuts out the width's parts of the log and of the list, and compares the list with the groups.
+// there is room for the longest one. `show_table` cuts out the width's parts of the log, of the list and of the runs, and compares the list with the groups.
 ghost use mathlib.Core.Path.{_≡_};
 ghost use mathlib.Core.List.{_∷_, []};
 ghost use Prim.Native.Nat.{_^_, _≤_, _<_};
@@ -8,17 +8,19 @@ ghost use Rattle.words.specs.Reads.{most};
 ghost use Rattle.words.specs.Rows.{rows};
 ghost use Rattle.words.specs.Lists.{lineSize};
 ghost use Rattle.words.specs.Moves.{moveSize};
+ghost use Rattle.words_runs.specs.Runs.{runSize};
 ghost use Rattle.text_answers.specs.Texts.{refusedText};
 ghost use Rattle.text_views.specs.Views.{widthText, headText, verdictText};
 ghost use Rattle.bench_shows.specs.Collecting.{Roomy, Collects};
-ghost use Rattle.bench_shows.specs.Places.{Brief, movesFrom, linesFrom, firstDiffer, Shown};
-use bench_agrees::part_end;
-use row_cells::part;
+ghost use Rattle.bench_shows.specs.Places.{Brief, movesFrom, linesFrom, runsFrom, firstDiffer, Shown};
+use bench_agrees::part_from;
 use row_lines::line_size;
 use row_lines::period_cell;
 use row_moves::entries;
 use row_moves::move_size;
 use row_moves::width_cell;
+use row_runs::run_period_cell;
+use row_runs::run_size;
 use text_outs::Out;
 
 // collects the first line of a read's view
@@ -41,19 +43,19 @@ fn collect_width(
     table: &[u16],
     moves: &[u16],
     lines: &[u16],
+    runs: &[u16],
     buf: &mut [u8],
     start: Out,
 ) -> Out
-    requires { ⌜ Brief (now table) (now moves) (now lines) × Roomy (now buf) (start .used) ⌝ }
-    ensures { λ r. ⌜ Collects (now (buf .entry)) start (widthText w (now (table .entry)) (now (moves .entry)) (now (lines .entry)))
+    requires { ⌜ Brief (now table) (now moves) (now lines) (now runs) × Roomy (now buf) (start .used) ⌝ }
+    ensures { λ r. ⌜ Collects (now (buf .entry)) start (widthText w (now (table .entry)) (now (moves .entry)) (now (lines .entry)) (now (runs .entry)))
         (now (buf .exit)) r ⌝ }
 {
-    // a line: a word, and six bytes for each number
-    let each = 9 + 6 * line_size();
-    let need = 27 * table.len() + 27 * entries(moves) + each * row_lines::room(lines) + 64;
+    let rows = row_lines::room(lines) + row_runs::room(runs);
+    let need = 27 * (table.len() + entries(moves)) + 57 * rows + 64;
     let o = text_outs::room(buf, need, start);
     let at = o.used;
-    let end = text_views::put_width(buf, at, w, table, moves, lines);
+    let end = text_views::put_width(buf, at, w, table, moves, lines, runs);
     Out {
         used: end,
         ok: o.ok,
@@ -98,10 +100,11 @@ pub fn first_differ(differ: usize, agree: bool, w: usize) -> usize
     if agree { differ } else { w }
 }
 
-// the place reached between two widths: the moves and lines passed, the first width at which list and groups differ, and what is collected
+// the place reached between two widths: the moves, lines and runs passed, the first width at which list and groups differ, and what is collected
 pub struct Place {
     pub moved: usize,
     pub listed: usize,
+    pub ran: usize,
     pub differ: usize,
     pub out: Out,
 }
@@ -111,26 +114,31 @@ pub fn show_table(
     table: &[u16],
     log: &[u16],
     list: &[u16],
+    runs: &[u16],
     w: usize,
     buf: &mut [u8],
     p: Place,
 ) -> Place
-    requires { ⌜ Brief (now table) (movesFrom (now log) w p) (linesFrom (now list) w p) × Roomy (now buf) (p .out .used)
-        × (p .moved ≤ rows moveSize (now log)) × (p .listed ≤ rows lineSize (now list)) ⌝ }
-    ensures { λ r. ⌜ Shown (now (table .entry)) (now (log .entry)) (now (list .entry)) w (now (buf .entry)) p (now (buf .exit)) r ⌝ }
+    requires { ⌜ Brief (now table) (movesFrom (now log) w p) (linesFrom (now list) w p) (runsFrom (now runs) w p) × Roomy (now buf) (p .out .used)
+        × (p .moved ≤ rows moveSize (now log)) × (p .listed ≤ rows lineSize (now list)) × (p .ran ≤ rows runSize (now runs)) ⌝ }
+    ensures { λ r. ⌜ Shown (now (table .entry)) (now (log .entry)) (now (list .entry)) (now (runs .entry)) w (now (buf .entry)) p (now (buf .exit)) r ⌝ }
 {
     let from = p.moved;
     let start = p.listed;
+    let first = p.ran;
     let o = p.out;
-    let moved = part_end(log, move_size(), width_cell(), w, from);
-    let listed = part_end(list, line_size(), period_cell(), w, start);
-    let moves = part(log, move_size(), from, moved);
-    let lines = part(list, line_size(), start, listed);
-    let after = collect_width(w, table, moves, lines, buf, o);
+    let moves = part_from(log, move_size(), width_cell(), w, from);
+    let lines = part_from(list, line_size(), period_cell(), w, start);
+    let maximal = part_from(runs, run_size(), run_period_cell(), w, first);
+    let after = collect_width(w, table, moves, lines, maximal, buf, o);
     let agree = bench_agrees::agree_at(table, w, lines);
+    let moved = from + entries(moves);
+    let listed = start + row_lines::room(lines);
+    let ran = first + row_runs::room(maximal);
     Place {
         moved,
         listed,
+        ran,
         differ: first_differ(p.differ, agree, w),
         out: after,
     }

@@ -1,41 +1,42 @@
--- One width shown from the table that the replay of the read's own log gives: the table is the read's, its parts are the read's moves and lines, and list and
--- groups agree, so that the next width is reached. Assumes nothing.
+-- One width shown from the table that the replay of the read's own log gives: the table is the read's, its parts are the read's moves, lines and runs, and list
+-- and groups agree, so that the next width is reached. Assumes nothing.
 use Prim.Native.Nat.{ℕ, zero, suc, _+_, _-_, _*_, _/_, _≤_, _<_}
 use mathlib.Core.Path.{_≡_, refl, sym, ap, _∙_}
 use mathlib.Core.Logic.{⊎-elim, _≢_}
-use mathlib.Core.Bool.{Bool, true, false, cond}
+use mathlib.Core.Bool.{true, false}
 use mathlib.Core.List.{List, []}
 use native.Mathlib.Omega.{arith}
-use native.Mathlib.Nat.{mul-le-mul-left, div-le-of-le-mul}
 use lib.ListN.{length}
 use lib.Dec.{ltb, eqb}
 use borrow.Author.Tests.{lt-ltb, le-ltb, eq-eqb, ne-eqb}
-use Rattle.words.specs.Range.{sum, gather}
+use Rattle.words.specs.Range.{gather}
 use Rattle.words.specs.Rows.{rows}
 use Rattle.words.specs.Reads.{most, at}
-use Rattle.words.specs.Repeats.{copies}
 use Rattle.words.specs.Groups.{table, smalls}
-use Rattle.words.specs.ByPeriod.{rowIf}
-use Rattle.words.specs.Lists.{lineSize, periodCell, lineAt, listed, line, linesAt, inMode}
+use Rattle.words.specs.Lists.{lineSize, periodCell, lineAt, listed, linesAt, inMode}
 use Rattle.words.specs.Moves.{moveSize, widthCell, topOf, top, moveCount, moves, log}
 use Rattle.words.proofs.Tests.{either}
-use Rattle.words.proofs.Sums.{sum-le, sum-const, count-le, length-gather}
+use Rattle.words.proofs.Sums.{count-le}
 use Rattle.words.proofs.Ranges.{gather-same, gather-stop}
 use Rattle.words.proofs.Groups.{table-length}
 use Rattle.words.proofs.Rows.{rows-times, rows-none}
 use Rattle.words.proofs.MoveLayout.{move-some, width-inside}
-use Rattle.words.proofs.LineLayout.{line-length, period-inside}
-use Rattle.words.proofs.Lines.{lines-at-each, lines-top}
+use Rattle.words.proofs.LineLayout.{line-some, period-inside}
+use Rattle.words.proofs.ByPeriod.{rows-at-few}
+use Rattle.words.proofs.Lines.{lines-top}
+use Rattle.words.proofs.Lists.{line-at-length}
 use Rattle.words.proofs.Room.{moves-length}
+use Rattle.words_runs.specs.Runs.{runSize, runPeriodCell, runBegins, runAt, runsAt}
+use Rattle.words_runs.proofs.RunLayout.{run-some, run-period-inside}
+use Rattle.words_runs.proofs.Lists.{run-at-length, runs-top}
 use Rattle.text_outs.specs.declared.Out.{Out}
-use Rattle.bench_agrees.specs.Parts.{partEnd}
 use Rattle.bench_agrees.proofs.Agree.{list-and-groups-agree}
-use Rattle.bench_agrees.proofs.Parts.{Keyed, keyed-cond, part-starts, part-end, part-is}
-use Rattle.bench_agrees.proofs.OwnRows.{moves-keyed, lines-keyed}
+use Rattle.bench_agrees.proofs.Parts.{Keyed, keyed-cond, part-starts, part-is, part-next}
+use Rattle.bench_widths.proofs.OwnRows.{moves-keyed, lines-keyed, runs-keyed}
 use Rattle.bench_widths.specs.Views.{logged, widthView, widthsOf}
 use Rattle.bench_widths.specs.Reaching.{Own, Reached}
 use Rattle.bench_shows.specs.Collecting.{Collects}
-use Rattle.bench_shows.specs.Places.{Brief, movesFrom, linesFrom, firstDiffer, Shown}
+use Rattle.bench_shows.specs.Places.{Brief, movesFrom, linesFrom, runsFrom, firstDiffer, Shown}
 use Rattle.bench_shows.specs.declared.Place.{Place}
 
 module _ (x : List ℕ) where
@@ -89,7 +90,7 @@ unfolding widthsOf topOf
 widths-few zero h = omega arith
 widths-few (suc n) h = rw (ne-eqb (suc n) 0 (omega arith)) (omega arith)
 
--- a width of a read has at most one move and one line for each position
+-- a width of a read has at most one move, one line and one run for each position
 few-moves : (x : List ℕ) (w : ℕ) → length x ≤ most → rows moveSize (logged x w) ≤ most
 unfolding logged moveCount
 few-moves x w few =
@@ -105,26 +106,20 @@ few-moves x w few =
     (λ (t : ltb w (top x) ≡ false). rw t (omega (arith, rows-none moveSize)))
     (either (ltb w (top x)))
 
-line-short : (x : List ℕ) (p i : ℕ) (b : Bool) → length (cond b (lineAt x p i) []) ≤ lineSize
-unfolding lineAt
-line-short x p i true = omega (arith, line-length i p (copies x i p))
-line-short x p i false = omega arith
-
 few-lines : (x : List ℕ) (p : ℕ) → length x ≤ most → rows lineSize (linesAt x (inMode x 0) p) ≤ most
-unfolding rows line rowIf
-few-lines x p few =
-    let f : ℕ → List ℕ = line x (inMode x 0) p in
-    let each : sum (λ i. length (f i)) (length x) 1 ≤ sum (λ i. lineSize) (length x) 1 =
-    sum-le (λ i. length (f i)) (λ i. lineSize) (length x) 1 (λ i a b. line-short x p i (listed x (inMode x 0) p i)) in
-    rw (lines-at-each x (inMode x 0) p)
-    (div-le-of-le-mul lineSize (omega (arith, each, length-gather f (length x) 1, sum-const lineSize (length x) 1, mul-le-mul-left lineSize few)))
+unfolding linesAt
+few-lines x p few = omega (arith, few, rows-at-few lineSize (length x) line-some (listed x (inMode x 0)) (lineAt x) (line-at-length x) p)
+
+few-runs : (x : List ℕ) (p : ℕ) → length x ≤ most → rows runSize (runsAt x p) ≤ most
+unfolding runsAt
+few-runs x p few = omega (arith, few, rows-at-few runSize (length x) run-some (runBegins x) (runAt x) (run-at-length x) p)
 
 -- before the first width
-pub reached-first : (x : List ℕ) (o : Out) → Reached x 1 (record { moved = 0; listed = 0; differ = 0; out = o })
+pub reached-first : (x : List ℕ) (o : Out) → Reached x 1 (record { moved = 0; listed = 0; ran = 0; differ = 0; out = o })
 unfolding gather
-reached-first x o = record { low = omega arith; high = omega arith; moved = omega arith; listed = omega arith; agree = refl }
+reached-first x o = record { low = omega arith; high = omega arith; moved = omega arith; listed = omega arith; ran = omega arith; agree = refl }
 
-module _ {x l m : List ℕ} (own : Own x l m) {w : ℕ} {p : Place} (r : Reached x w p) (here : w ≤ widthsOf (length x)) where
+module _ {x l m s : List ℕ} (own : Own x l m s) {w : ℕ} {p : Place} (r : Reached x w p) (here : w ≤ widthsOf (length x)) where
   below : w ≤ top x
   below = widths-some x w (r .low) here .1
 
@@ -134,54 +129,76 @@ module _ {x l m : List ℕ} (own : Own x l m) {w : ℕ} {p : Place} (r : Reached
   list-is : m ≡ gather (linesAt x (inMode x 0)) (top x) 1
   list-is = own .list ∙ lines-top x (inMode x 0)
 
-  -- the places reached lie in the log and in the list
+  runs-are : s ≡ gather (runsAt x) (top x) 1
+  runs-are = own .runs ∙ runs-top x
+
+  -- the places reached lie in the log, in the list and in the runs
   pub moved-inside : p .moved ≤ rows moveSize l
-  moved-inside = rw log-is (part-starts moveSize widthCell width-inside (logged x) (logged-keyed x) (top x) w (p .moved) (r .low) below (r .moved))
+  moved-inside = part-starts moveSize widthCell width-inside (logged x) (logged-keyed x) (top x) w (p .moved) (r .low) below (r .moved) log-is
 
   pub listed-inside : p .listed ≤ rows lineSize m
-  listed-inside = rw list-is (part-starts lineSize periodCell period-inside (linesAt x (inMode x 0)) (lines-keyed x) (top x) w (p .listed) (r .low) below (r .listed))
+  listed-inside = part-starts lineSize periodCell period-inside (linesAt x (inMode x 0)) (lines-keyed x) (top x) w (p .listed) (r .low) below (r .listed) list-is
+
+  pub ran-inside : p .ran ≤ rows runSize s
+  ran-inside = part-starts runSize runPeriodCell run-period-inside (runsAt x) (runs-keyed x) (top x) w (p .ran) (r .low) below (r .ran) runs-are
 
   moves-part : movesFrom l w p ≡ logged x w
   unfolding movesFrom
-  moves-part = rw log-is (part-is moveSize widthCell width-inside (logged x) (logged-keyed x) (top x) w (p .moved) (r .low) below (r .moved))
+  moves-part = part-is moveSize widthCell width-inside (logged x) (logged-keyed x) (top x) w (p .moved) (r .low) below (r .moved) log-is
 
   lines-part : linesFrom m w p ≡ linesAt x (inMode x 0) w
   unfolding linesFrom
-  lines-part = rw list-is (part-is lineSize periodCell period-inside (linesAt x (inMode x 0)) (lines-keyed x) (top x) w (p .listed) (r .low) below (r .listed))
+  lines-part = part-is lineSize periodCell period-inside (linesAt x (inMode x 0)) (lines-keyed x) (top x) w (p .listed) (r .low) below (r .listed) list-is
 
-  pub brief-own : (t : List ℕ) → length t ≤ most → Brief t (movesFrom l w p) (linesFrom m w p)
+  runs-part : runsFrom s w p ≡ runsAt x w
+  unfolding runsFrom
+  runs-part = part-is runSize runPeriodCell run-period-inside (runsAt x) (runs-keyed x) (top x) w (p .ran) (r .low) below (r .ran) runs-are
+
+  pub brief-own : (t : List ℕ) → length t ≤ most → Brief t (movesFrom l w p) (linesFrom m w p) (runsFrom s w p)
   brief-own t h =
       record {
         names = h;
         movers = rw moves-part (few-moves x w (own .few));
         starts = rw lines-part (few-lines x w (own .few));
+        firsts = rw runs-part (few-runs x w (own .few));
       }
 
-  moves-end : moveSize * partEnd moveSize l widthCell w (p .moved) ≡ length (gather (logged x) w 1)
-  moves-end = rw log-is (part-end moveSize widthCell width-inside (logged x) (logged-keyed x) (top x) w (p .moved) (r .low) below (r .moved))
+  -- the places after the rows of this width are those after the rows of all widths up to it
+  moves-end : moveSize * (p .moved + rows moveSize (movesFrom l w p)) ≡ length (gather (logged x) w 1)
+  unfolding movesFrom
+  moves-end = part-next moveSize widthCell width-inside (logged x) (logged-keyed x) (top x) w (p .moved) (r .low) below (r .moved) log-is
 
-  lines-end : lineSize * partEnd lineSize m periodCell w (p .listed) ≡ length (gather (linesAt x (inMode x 0)) w 1)
-  lines-end = rw list-is (part-end lineSize periodCell period-inside (linesAt x (inMode x 0)) (lines-keyed x) (top x) w (p .listed) (r .low) below (r .listed))
+  lines-end : lineSize * (p .listed + rows lineSize (linesFrom m w p)) ≡ length (gather (linesAt x (inMode x 0)) w 1)
+  unfolding linesFrom
+  lines-end = part-next lineSize periodCell period-inside (linesAt x (inMode x 0)) (lines-keyed x) (top x) w (p .listed) (r .low) below (r .listed) list-is
 
-  module _ {t buf after : List ℕ} {q : Place} (e : t ≡ table x w) (shown : Shown t l m w buf p after q) where
-    s : Shown (table x w) l m w buf p after q
-    s = rw e at shown
+  runs-end : runSize * (p .ran + rows runSize (runsFrom s w p)) ≡ length (gather (runsAt x) w 1)
+  unfolding runsFrom
+  runs-end = part-next runSize runPeriodCell run-period-inside (runsAt x) (runs-keyed x) (top x) w (p .ran) (r .low) below (r .ran) runs-are
+
+  module _ {t buf after : List ℕ} {q : Place} (e : t ≡ table x w) (shown : Shown t l m s w buf p after q) where
+    own-shown : Shown (table x w) l m s w buf p after q
+    own-shown = rw e at shown
 
     pub width-collects : Collects buf (p .out) (widthView x w) after (q .out)
     unfolding widthView
-    width-collects = rw (moves-part, lines-part) at (s .collects)
+    width-collects = rw (moves-part, lines-part, runs-part) at (own-shown .collects)
 
     still-agree : q .differ ≡ 0
     unfolding firstDiffer
-    still-agree = s .differ ∙ rw (lines-part, list-and-groups-agree x w (r .low), r .agree)
+    still-agree = own-shown .differ ∙ rw (lines-part, list-and-groups-agree x w (r .low), r .agree)
+
+    -- the rows passed are those of one width more
+    passed : (c k end : ℕ) (f : ℕ → List ℕ) → k ≡ end → c * end ≡ length (gather f w 1) → c * k ≡ length (gather f (w + 1 - 1) 1)
+    passed c k end f a b = let v : w ≡ w + 1 - 1 = omega arith in ap (λ (i : ℕ). c * i) a ∙ b ∙ ap (λ (i : ℕ). length (gather f i 1)) v
 
     pub reached-next : Reached x (w + 1) q
     reached-next =
-        let e : w ≡ w + 1 - 1 = omega arith in
         record {
           low = omega arith;
           high = omega arith;
-          moved = ap (λ (v : ℕ). moveSize * v) (s .moved) ∙ moves-end ∙ ap (λ (v : ℕ). length (gather (logged x) v 1)) e;
-          listed = ap (λ (v : ℕ). lineSize * v) (s .listed) ∙ lines-end ∙ ap (λ (v : ℕ). length (gather (linesAt x (inMode x 0)) v 1)) e;
+          moved = passed moveSize _ _ (logged x) (own-shown .moved) moves-end;
+          listed = passed lineSize _ _ (linesAt x (inMode x 0)) (own-shown .listed) lines-end;
+          ran = passed runSize _ _ (runsAt x) (own-shown .ran) runs-end;
           agree = still-agree;
         }

@@ -19,7 +19,7 @@ use Rattle.bench_widths.specs.Views.{widthsOf}
 use Rattle.bench_widths.specs.Reaching.{Own, Replays}
 use Rattle.bench_widths.proofs.Reaching.{widths-some}
 
-module _ {x l m : List ℕ} (own : Own x l m) where
+module _ {x l m s : List ℕ} (own : Own x l m s) where
   pub own-formed : Formed (length x) l
   own-formed = rw (own .log) (formed-good (length x) (log x) (own .few) (log-well-formed x))
 

@@ -21,8 +21,15 @@ pub fn widths(n: usize) -> usize
 }
 
 // shows every width of a read; the work rooms of the replay are empty between widths
-pub fn show_widths(read: &[u8], log: &[u16], list: &[u16], buf: &mut [u8], start: Out) -> Place
-    requires { ⌜ Own (now read) (now log) (now list) × Roomy (now buf) (start .used) ⌝ }
+pub fn show_widths(
+    read: &[u8],
+    log: &[u16],
+    list: &[u16],
+    runs: &[u16],
+    buf: &mut [u8],
+    start: Out,
+) -> Place
+    requires { ⌜ Own (now read) (now log) (now list) (now runs) × Roomy (now buf) (start .used) ⌝ }
     ensures { λ r. ⌜ Reached (now (read .entry)) (widthsOf (length (now (read .entry))) + 1) r
         × Collects (now (buf .entry)) start (gather (widthView (now (read .entry))) (widthsOf (length (now (read .entry)))) 1)
         (now (buf .exit)) (r .out) ⌝ }
@@ -38,13 +45,14 @@ pub fn show_widths(read: &[u8], log: &[u16], list: &[u16], buf: &mut [u8], start
     let mut p = Place {
         moved: 0,
         listed: 0,
+        ran: 0,
         differ: 0,
         out: start,
     };
     let mut w: u16 = 0;
     while w < top {
         w += 1;
-        p = show_table(&name[..n], log, list, w as usize, buf, p);
+        p = show_table(&name[..n], log, list, runs, w as usize, buf, p);
         from = replay_width(
             &mut name,
             &mut mark,

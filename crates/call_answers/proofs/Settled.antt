@@ -1,6 +1,7 @@
 -- Two results x and y at the arguments a, both allowed by the contract of the function as the source states it, are equal. Assumes nothing.
 use mathlib.Core.Path.{_≡_, sym, _∙_}
 use Rattle.call_answers.proofs.listed.Reads as listed
+use Rattle.call_answers.proofs.runs_listed.Reads as runs-listed
 use Rattle.call_answers.proofs.tabled.Reads as tabled
 use Rattle.call_answers.proofs.logged.Reads as logged
 use Rattle.call_answers.proofs.replayed.Reads as replayed
@@ -12,6 +13,9 @@ use Rattle.call_answers.proofs.looked.Reads as looked
 
 pub listed-settled : (κs : _) (a : _) (x y : _) (e f : _) → listed.Learnt κs a x e → listed.Learnt κs a y f → x ≡ y
 listed-settled κs a x y e f p q = p ∙ sym q
+
+pub runs-listed-settled : (κs : _) (a : _) (x y : _) (e f : _) → runs-listed.Learnt κs a x e → runs-listed.Learnt κs a y f → x ≡ y
+runs-listed-settled κs a x y e f p q = p ∙ sym q
 
 pub tabled-settled : (κs : _) (a : _) (x y : _) (e f : _) → tabled.Learnt κs a x e → tabled.Learnt κs a y f → x ≡ y
 tabled-settled κs a x y e f p q = p ∙ sym q

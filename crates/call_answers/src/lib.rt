@@ -1,10 +1,11 @@
 // The answers of the public calls in the documents' numbers: the one place in code where a case becomes a number and its values.
-// What each case says stands in the definitions of words, specs/Answers.antt, and of words_index, specs/Calls.antt; `plain` puts it side by side.
+// What each case says stands in the definitions of words, specs/Answers.antt, and of words_index and words_runs, specs/Calls.antt; `plain` puts it side by side.
 ghost use mathlib.Core.Path.{_≡_};
 ghost use Rattle.words.specs.Answers.{listedSays, tabledSays, loggedSays, replayedSays, claimedSays};
 ghost use Rattle.words.specs.Answers.{success as saysSuccess, both as saysBoth, refusal as saysRefusal};
 ghost use Rattle.words_index.specs.Calls.{indexedSays, listIndexedSays};
 ghost use Rattle.words_index.specs.declared.Looked.{Looked};
+ghost use Rattle.words_runs.specs.Calls.{runsListedSays};
 ghost use Rattle.call_answers.specs.Plain.{plain, plainMove, plainLooked};
 use words::Claimed;
 use words::Entry;
@@ -16,6 +17,7 @@ use words::Taken;
 use words_index::Indexed;
 use words_index::ListIndexed;
 use words_index::Looked;
+use words_runs::RunsListed;
 
 // An answer: its number, 0 for success and else the refusal's, and the values returned with it, 0 for each that it has not.
 #[repr(C)]
@@ -88,6 +90,17 @@ pub fn listed(a: Listed) -> Answer
         Listed::TooLong(long) => refusal(1, long),
         Listed::BadMode(mode) => refusal(2, mode as usize),
         Listed::ListFull(count) => refusal(3, count),
+    }
+}
+
+// what `runs` answers
+pub fn runs_listed(a: RunsListed) -> Answer
+    ensures { λ r. ⌜ r ≡ plain (runsListedSays a) ⌝ }
+{
+    match a {
+        RunsListed::Runs(count) => success(count),
+        RunsListed::TooLong(long) => refusal(1, long),
+        RunsListed::ListFull(count) => refusal(3, count),
     }
 }
 

@@ -1,5 +1,5 @@
 -- What `list_index` answers and leaves in both slices: each answer says what document 02 says, and no two answers say the same. Assumes nothing.
-use Prim.Native.Nat.{ℕ, _*_, _/_, _≤_, _<_}
+use Prim.Native.Nat.{ℕ, _*_, _≤_, _<_}
 use mathlib.Core.Path.{_≡_, refl, sym, ap, _∙_}
 use mathlib.Core.Bool.{true, cond}
 use mathlib.Core.List.{List}
@@ -15,13 +15,14 @@ use Rattle.words.specs.Moves.{top, topOf}
 use Rattle.words.specs.Logs.{within}
 use Rattle.words.specs.Answers.{Answer, both, refusal}
 use Rattle.words.specs.Calls.{refuse, tooLong, afterwards, listAfterwards}
+use Rattle.words.proofs.LineLayout.{line-some}
 use Rattle.words_index.specs.Index.{inOrder, entrySize, index, entryCount}
 use Rattle.words_index.specs.Calls.{listIndexAnswer, listIndexLeaves, listIndexBeside, listIndexedSays}
 use Rattle.words_index.specs.declared.ListIndexed.{ListIndexed}
 use Rattle.words_index.proofs.OfList.{lines-in-order, entries-top}
 use Rattle.row_cells.specs.Listing.{Listing}
 use Rattle.row_cells.proofs.Adding.{room-fits}
-use Rattle.call_widths.proofs.Onward.{listing-counted}
+use Rattle.row_cells.proofs.Listed.{listing-rows, listing-room}
 use Rattle.call_blocks.proofs.Indexing.{indexing-counted}
 
 -- the contract of `list_index`: what it answers, and what it leaves in the slice of the list and in that of the index
@@ -72,11 +73,11 @@ module _ (x : List ℕ) (mode : ℕ) (out s : List ℕ) where
       -- the list is written
       module _ (c : ℕ) (out′ : List ℕ) (L : Listing lineSize out made c out′) where
         pub lines-counted : c ≡ count
-        lines-counted = sym (listing-counted x mode out out′ c L)
+        unfolding lineCount
+        lines-counted = sym (listing-rows lineSize out made out′ c line-some L)
 
         pub same-room : rows lineSize out ≡ rows lineSize out′
-        unfolding rows
-        same-room = ap (λ (v : ℕ). v / lineSize) (sym (L .same))
+        same-room = listing-room lineSize out made out′ c line-some L
 
         module _ (l : c ≤ rows lineSize out) where
           pub size-fits : lineSize * c ≤ length out′

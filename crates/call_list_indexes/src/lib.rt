@@ -27,7 +27,7 @@ fn write_both(read: &[u8], mode: u32, out: &mut [u16], index: &mut [u64]) -> Lis
         × (now (index .exit) ≡ listIndexBeside (now (read .entry)) mode (now (out .entry)) (now (index .entry))) ⌝ }
 {
     let t = list_widths(out, read, mode);
-    let lines = t.lines;
+    let lines = t.rows;
     if room(out) < lines {
         clear(out);
         return ListIndexed::ListFull(lines);
@@ -45,7 +45,7 @@ fn count_both(read: &[u8], mode: u32, out: &mut [u16], index: &mut [u64]) -> Lis
         × (now (index .exit) ≡ listIndexBeside (now (read .entry)) mode (now (out .entry)) (now (index .entry))) ⌝ }
 {
     let t = count_widths(read, mode);
-    let lines = t.lines;
+    let lines = t.rows;
     if room(out) < lines {
         clear(out);
         return ListIndexed::ListFull(lines);

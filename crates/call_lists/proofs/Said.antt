@@ -1,5 +1,5 @@
 -- What `list` answers and leaves: each answer says what document 01 says, and no two answers say the same. Assumes nothing.
-use Prim.Native.Nat.{ℕ, _/_, _≤_, _<_}
+use Prim.Native.Nat.{ℕ, _≤_, _<_}
 use mathlib.Core.Path.{_≡_, refl, sym, ap, _∙_}
 use mathlib.Core.Bool.{cond}
 use mathlib.Core.List.{List}
@@ -14,9 +14,9 @@ use Rattle.words.specs.Logs.{within}
 use Rattle.words.specs.Answers.{Answer, success, refusal, listedSays}
 use Rattle.words.specs.Calls.{refuse, tooLong, afterwards, listAfterwards, listAnswer, listLeaves}
 use Rattle.words.specs.declared.Listed.{Listed}
+use Rattle.words.proofs.LineLayout.{line-some}
 use Rattle.row_cells.specs.Listing.{Listing}
-use Rattle.row_cells.proofs.Adding.{room-fits}
-use Rattle.call_widths.proofs.Onward.{listing-counted}
+use Rattle.row_cells.proofs.Listed.{listing-rows, listing-short, listing-fits, listing-front}
 
 -- the contract of `list`: what it answers, and what it leaves in the slice
 abbrev pub Says : List ℕ → ℕ → List ℕ → Listed → List ℕ → Type 0
@@ -34,27 +34,23 @@ module _ (x : List ℕ) (mode : ℕ) (out : List ℕ) where
         (rw (le-ltb most (length x) few, le-leb 0 mode (omega arith), lt-leb mode 1 l), rw (le-ltb most (length x) few, le-leb 0 mode (omega arith), lt-leb mode 1 l))
 
     module _ (m : mode ≤ 1) (r : ℕ) (out′ : List ℕ) (L : Listing lineSize out (lines x (inMode x mode)) r out′) where
-      counted : lineCount x (inMode x mode) ≡ r
-      counted = listing-counted x mode out out′ r L
-
-      same-room : rows lineSize out ≡ rows lineSize out′
-      unfolding rows
-      same-room = ap (λ (v : ℕ). v / lineSize) (sym (L .same))
+      abbrev made : List ℕ
+      made = lines x (inMode x mode)
 
       pub short-said : rows lineSize out′ < r → Says x mode out (Listed.ListFull r) (replicate (length out′) 0)
-      unfolding listedSays listAnswer listLeaves listAfterwards afterwards refuse tooLong refusal within
+      unfolding listedSays listAnswer listLeaves listAfterwards afterwards refuse tooLong refusal within lineCount
       short-said l =
-          let t = lt-ltb (rows lineSize out′) r l in (
-            rw (le-ltb most (length x) few, le-leb 0 mode (omega arith), le-leb mode 1 m, counted, same-room, t),
-            rw (le-ltb most (length x) few, le-leb 0 mode (omega arith), le-leb mode 1 m, counted, same-room, t, L .same),
+          let t = listing-short lineSize out made out′ r line-some L l in (
+            rw (le-ltb most (length x) few, le-leb 0 mode (omega arith), le-leb mode 1 m, t, listing-rows lineSize out made out′ r line-some L),
+            rw (le-ltb most (length x) few, le-leb 0 mode (omega arith), le-leb mode 1 m, t, L .same),
           )
 
       pub lines-said : r ≤ rows lineSize out′ → Says x mode out (Listed.Lines r) out′
-      unfolding listedSays listAnswer listLeaves listAfterwards afterwards refuse tooLong success within
+      unfolding listedSays listAnswer listLeaves listAfterwards afterwards refuse tooLong success within lineCount
       lines-said l =
-          let t = le-ltb (rows lineSize out′) r l in (
-            rw (le-ltb most (length x) few, le-leb 0 mode (omega arith), le-leb mode 1 m, counted, same-room, t),
-            rw (le-ltb most (length x) few, le-leb 0 mode (omega arith), le-leb mode 1 m, counted, same-room, t) (L .front (omega (arith, L .count, L .same, room-fits lineSize out′ r l))),
+          let t = listing-fits lineSize out made out′ r line-some L l in (
+            rw (le-ltb most (length x) few, le-leb 0 mode (omega arith), le-leb mode 1 m, t, listing-rows lineSize out made out′ r line-some L),
+            rw (le-ltb most (length x) few, le-leb 0 mode (omega arith), le-leb mode 1 m, t) (listing-front lineSize out made out′ r line-some L l),
           )
 
 -- an answer read back

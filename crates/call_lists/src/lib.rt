@@ -21,7 +21,7 @@ pub fn list(read: &[u8], mode: u32, out: &mut [u16]) -> Listed
         return Listed::BadMode(mode);
     }
     let t = list_widths(out, read, mode);
-    let count = t.lines;
+    let count = t.rows;
     if room(out) < count {
         clear(out);
         return Listed::ListFull(count);

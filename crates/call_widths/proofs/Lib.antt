@@ -1,2 +1,3 @@
 pub mod Onward
+pub mod Seen
 pub mod Settled

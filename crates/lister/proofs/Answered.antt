@@ -20,9 +20,11 @@ use Rattle.words.specs.Answers.{Answer, success, both, refusal}
 use Rattle.words.specs.Calls.{refuse, tooLong, afterwards, listAfterwards, listAnswer, listLeaves, tableAnswer, tableLeaves, logAnswer, logLeaves, replayAnswer, replayLeaves, claimAnswer}
 use Rattle.words_index.specs.Index.{inOrder, entrySize, entryCount}
 use Rattle.words_index.specs.Calls.{indexAnswer, indexLeaves, listIndexAnswer, listIndexLeaves, listIndexBeside}
+use Rattle.words_runs.specs.Runs.{runSize, runs, runCount}
+use Rattle.words_runs.specs.Calls.{runsAnswer, runsLeaves}
 use Rattle.words.proofs.Tests.{either, or-left, or-right, lt-or-ge}
 use Rattle.words.proofs.Afterwards.{success-front, success-list, list-full, refused-same, refused-list}
-use Rattle.lister.proofs.Refusals.{Row, rowAt, Follows, By, listRows, tableRows, logRows, ReplayWidth, replayRows, claimRows, indexRows, bothRows, listIndexRows, besideRows}
+use Rattle.lister.proofs.Refusals.{Row, rowAt, Follows, By, listRows, runsRows, tableRows, logRows, ReplayWidth, replayRows, claimRows, indexRows, bothRows, listIndexRows, besideRows}
 
 -- where some row holds and each that holds is followed, the answer goes by the table
 goes-by : (t : List Row) (a : Answer) (s : List ℕ) → (k : ℕ) × rowAt t k .when → Follows t a s → By t a s
@@ -81,6 +83,23 @@ module _ (x : List ℕ) (mode : ℕ) (out : List ℕ) where
       gives (suc zero) w = rw (long-yes x w) (refl, refused-list made out 1 (length x) refl refl)
       gives (suc (suc zero)) w = rw (long-no x (w .0), in-no 0 1 mode (inr (w .1))) (refl, refused-list made out 2 mode refl refl)
       gives (suc (suc (suc zero))) w = rw (long-no x (w .0), in-yes 0 1 mode (omega arith) (w .1), lt-ltb (rows lineSize out) count (w .2)) (refl, list-full made out count)
+      gives (suc (suc (suc (suc k)))) w = absurd w
+
+module _ (x out : List ℕ) where
+  pub runs-by : By (runsRows x out) (runsAnswer x out) (runsLeaves x out)
+  unfolding runsAnswer runsLeaves refuse success refusal
+  runs-by = goes-by (runsRows x out) _ _ (which (lt-or-ge most (length x)) (lt-or-ge (rows runSize out) (runCount x))) gives
+    where
+      which : (most < length x) ⊎ (length x ≤ most) → (rows runSize out < runCount x) ⊎ (runCount x ≤ rows runSize out) → (k : ℕ) × rowAt (runsRows x out) k .when
+      which (inl h) l = (1, h)
+      which (inr h) (inl l) = (3, (h, l))
+      which (inr h) (inr l) = (0, (h, l))
+
+      gives : Follows (runsRows x out) (runsAnswer x out) (runsLeaves x out)
+      gives zero w = rw (long-no x (w .0), le-ltb (rows runSize out) (runCount x) (w .1)) (refl, success-list (runs x) out (runCount x))
+      gives (suc zero) w = rw (long-yes x w) (refl, refused-list (runs x) out 1 (length x) refl refl)
+      gives (suc (suc zero)) w = absurd w
+      gives (suc (suc (suc zero))) w = rw (long-no x (w .0), lt-ltb (rows runSize out) (runCount x) (w .1)) (refl, list-full (runs x) out (runCount x))
       gives (suc (suc (suc (suc k)))) w = absurd w
 
 module _ (x : List ℕ) (w : ℕ) (out : List ℕ) where

@@ -2,7 +2,7 @@
 -- time a holds the arguments of a call, r is what it returns, and e holds the arguments afterwards. Open this file first. Assumes nothing.
 use Prim.Native.Nat.{ℕ, _-_, _*_, _≤_, _<_}
 use mathlib.Core.Path.{_≡_, refl, sym, ap, _∙_}
-use mathlib.Core.Logic.{_⊎_, inl, inr, _↔_, ⊎-elim}
+use mathlib.Core.Logic.{_⊎_, inl, inr, _↔_}
 use mathlib.Core.Bool.{true}
 use mathlib.Core.List.{List, []}
 use native.Mathlib.Omega.{arith}
@@ -17,10 +17,11 @@ use Rattle.words.specs.Moves.{topOf, top, moveOf, moveSize, log, M}
 use Rattle.words.specs.Logs.{before}
 use Rattle.words.specs.Answers.{success, refusal, listedSays, tabledSays, loggedSays, replayedSays, claimedSays}
 use Rattle.words_index.specs.Calls.{indexedSays, listIndexedSays}
+use Rattle.words_runs.specs.Calls.{runsListedSays}
 use Rattle.words.specs.Calls.{tableAnswer, tableLeaves, replayAnswer, replayLeaves}
 use Rattle.words.proofs.Tests.{lt-or-ge}
 use Rattle.words.proofs.Rows.{Has, rows-times}
-use Rattle.words.proofs.Lists.{mode-all, mode-leading, lines-full, lines-row, lines-exactly, lines-ordered}
+use Rattle.words.proofs.Lists.{mode-all, mode-leading, lines-full, lines-row, lines-exactly, lines-ordered, lines-once}
 use Rattle.words.proofs.Afterwards.{front}
 use Rattle.words.proofs.Replay.{replay-own}
 use Rattle.words.proofs.Logs.{Move, log-exactly, log-ordered, log-well-formed}
@@ -30,6 +31,7 @@ use Rattle.partition.specs.Stand.{groups}
 use Rattle.partition.specs.declared.Partition.{Partition}
 use Rattle.partition.proofs.OfRead.{of-groups}
 use Rattle.call_lists.proofs.list.Reads as list-call
+use Rattle.call_runs.proofs.runs.Reads as runs-call
 use Rattle.call_tables.proofs.group_table.Reads as table-call
 use Rattle.call_logs.proofs.log.Reads as log-call
 use Rattle.call_replays.proofs.replay.Reads as replay-call
@@ -40,8 +42,8 @@ use Rattle.call_claims.proofs.claim.Reads as claim-call
 use Rattle.call_claims.proofs.motif.Reads as motif-call
 use Rattle.call_reader.proofs.take_at.Reads as take-call
 use Rattle.call_reader.proofs.Learnt.{NewAsked, NewLearnt, NextAsked, NextLearnt}
-use Rattle.lister.proofs.Refusals.{By, listRows, tableRows, logRows, replayRows, claimRows, indexRows, listIndexRows, besideRows}
-use Rattle.lister.proofs.Answered.{by-equal, list-by, table-by, log-by, replay-by, claim-by, index-by, list-index-by, beside-by}
+use Rattle.lister.proofs.Refusals.{By, listRows, runsRows, tableRows, logRows, replayRows, claimRows, indexRows, listIndexRows, besideRows}
+use Rattle.lister.proofs.Answered.{by-equal, list-by, runs-by, table-by, log-by, replay-by, claim-by, index-by, list-index-by, beside-by}
 use Rattle.lister.proofs.Handed.{MotifOf, motif-of, TakesOf, takes-of, LooksOf, looks-of}
 use Rattle.lister.proofs.Steps.{Steps, steps-of, steps-sum}
 
@@ -50,6 +52,7 @@ use Rattle.lister.proofs.Steps.{Steps, steps-of, steps-sum}
 -- every call takes any input, its answer and slice go by its table of refusals, and motif and entry are given exactly when they should be
 pub record EveryCallIsAnswered : Type 0 where
   pub list : (κs : _) (a : _) → list-call.Asked κs a × ((r : _) (e : _) → list-call.Learnt κs a r e → By (listRows (now (a .0)) (a .1 .0) (now (a .1 .1 .0))) (listedSays r) (now (e .1 .1 .0)))
+  pub runs : (κs : _) (a : _) → runs-call.Asked κs a × ((r : _) (e : _) → runs-call.Learnt κs a r e → By (runsRows (now (a .0)) (now (a .1 .0))) (runsListedSays r) (now (e .1 .0)))
   pub table : (κs : _) (a : _) → table-call.Asked κs a × ((r : _) (e : _) → table-call.Learnt κs a r e → By (tableRows (now (a .0)) (a .1 .0) (now (a .1 .1 .0))) (tabledSays r) (now (e .1 .1 .0)))
   pub log : (κs : _) (a : _) → log-call.Asked κs a × ((r : _) (e : _) → log-call.Learnt κs a r e → By (logRows (now (a .0)) (now (a .1 .0))) (loggedSays r) (now (e .1 .0)))
   pub replay : (κs : _) (a : _) → replay-call.Asked κs a × ((r : _) (e : _) → replay-call.Learnt κs a r e → By (replayRows (now (a .0)) (now (a .1 .0)) (a .1 .1 .0) (now (a .1 .1 .1 .0))) (replayedSays r) (now (e .1 .1 .1 .0)))
@@ -68,6 +71,7 @@ pub every-call-is-answered : EveryCallIsAnswered
 every-call-is-answered =
     record {
       list = λ κs a. (tt, λ r e h. by-equal (h .0) (h .1) (list-by _ _ _));
+      runs = λ κs a. (tt, λ r e h. by-equal (h .0) (h .1) (runs-by _ _));
       table = λ κs a. (tt, λ r e h. by-equal (h .0) (h .1) (table-by _ _ _));
       log = λ κs a. (tt, λ r e h. by-equal (h .0) (h .1) (log-by _ _));
       replay = λ κs a. (tt, λ r e h. by-equal (h .0) (h .1) (replay-by _ _ _ _));
@@ -99,7 +103,7 @@ crochemores-lines x mode =
       leading = λ m i p e. leading m i p e;
       whole = lines-full x (inMode x mode);
       line = λ k b. let L = lines-row x (inMode x mode) k b in (L .start, L .period, L .count, L .is);
-      once = λ h k a b e. ⊎-elim (λ l. absurd (apart h k l b e)) (λ l. ⊎-elim (λ g. absurd (apart k h g a (sym e))) (λ g. omega arith) (lt-or-ge k h)) (lt-or-ge h k);
+      once = lines-once x (inMode x mode);
       ordered = λ h k i p e j q d l b u v. lines-ordered x (inMode x mode) h k i p e j q d l b u v;
     }
   where
@@ -112,12 +116,6 @@ crochemores-lines x mode =
           λ h. let r = lines-exactly x (inMode x 1) i p e .0 h in (r .0, sym (mode-leading x p i) ∙ r .1),
           λ t. lines-exactly x (inMode x 1) i p e .1 (t .0, mode-leading x p i ∙ t .1),
         )
-
-    -- no line comes after itself
-    apart : (h k : ℕ) → h < k → k < rows lineSize (lines x (inMode x mode)) → row lineSize (lines x (inMode x mode)) h ≡ row lineSize (lines x (inMode x mode)) k → ⊥
-    apart h k l b e =
-        let L = lines-row x (inMode x mode) k b in
-        ⊎-elim (λ c. omega arith) (λ c. omega (arith, c .1)) (lines-ordered x (inMode x mode) h k _ _ _ _ _ _ l b (e ∙ L .is) (L .is))
 
 -- where the list call succeeds, the front of the slice is exactly Crochemore's list, the rest is as it was, and the answer is its number of lines
 pub list-is-crochemores : (κs : _) (a : _) (r : _) (e : _) → list-call.Learnt κs a r e → listedSays r .number ≡ 0

@@ -5,3 +5,4 @@ pub mod Steps
 pub mod Demands
 pub mod Indexes
 pub mod Unread
+pub mod Repetitions

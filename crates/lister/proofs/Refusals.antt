@@ -18,6 +18,7 @@ use Rattle.words.specs.Logs.{firstBad, wellFormed}
 use Rattle.words.specs.Answers.{Answer}
 use Rattle.words.proofs.Afterwards.{front}
 use Rattle.words_index.specs.Index.{firstLoose, inOrder, entrySize, index, entryCount}
+use Rattle.words_runs.specs.Runs.{runSize, runs, runCount}
 
 -- one row: when its number is given, what is returned with it, and the lent slice afterwards
 pub record Row : Type 1 where
@@ -55,6 +56,16 @@ listRows x mode out =
     ∷ rowOf (most < length x) (length x) out
     ∷ rowOf ((length x ≤ most) × (1 < mode)) mode out
     ∷ rowOf ((length x ≤ most) × (mode ≤ 1) × (rows lineSize out < c)) c (replicate (length out) 0)
+    ∷ []
+
+-- the runs of a read x, c of them
+abbrev pub runsRows : List ℕ → List ℕ → List Row
+runsRows x out =
+    let c = runCount x in
+    rowOf ((length x ≤ most) × (c ≤ rows runSize out)) c (front (runs x) out)
+    ∷ rowOf (most < length x) (length x) out
+    ∷ never
+    ∷ rowOf ((length x ≤ most) × (rows runSize out < c)) c (replicate (length out) 0)
     ∷ []
 
 -- the group table at a width

@@ -1,3 +1,4 @@
 pub mod Stored
 pub mod Cleared
 pub mod Adding
+pub mod Listed

@@ -268,4 +268,5 @@ fn main() {
     bytes();
     run_indexes::run();
     run_unread::run();
+    run_runs::run();
 }

@@ -3,6 +3,7 @@
 use mathlib.Core.Path.{_≡_, sym, _∙_}
 use denote.Ref.{now}
 use Rattle.sorunggyeo.proofs.sorunggyeo_list.Reads as sorunggyeo-list
+use Rattle.sorunggyeo.proofs.sorunggyeo_runs.Reads as sorunggyeo-runs
 use Rattle.sorunggyeo.proofs.sorunggyeo_group_table.Reads as sorunggyeo-group-table
 use Rattle.sorunggyeo.proofs.sorunggyeo_log.Reads as sorunggyeo-log
 use Rattle.sorunggyeo.proofs.sorunggyeo_replay.Reads as sorunggyeo-replay
@@ -15,6 +16,9 @@ use Rattle.sorunggyeo.proofs.sorunggyeo_lookup.Reads as sorunggyeo-look
 
 pub sorunggyeo-list-settled : (κs : _) (a : _) (x y : _) (e f : _) → sorunggyeo-list.Learnt κs a x e → sorunggyeo-list.Learnt κs a y f → (x ≡ y) × (now (e .1 .1 .0) ≡ now (f .1 .1 .0))
 sorunggyeo-list-settled κs a x y e f p q = (p .0 ∙ sym (q .0), p .1 ∙ sym (q .1))
+
+pub sorunggyeo-runs-settled : (κs : _) (a : _) (x y : _) (e f : _) → sorunggyeo-runs.Learnt κs a x e → sorunggyeo-runs.Learnt κs a y f → (x ≡ y) × (now (e .1 .0) ≡ now (f .1 .0))
+sorunggyeo-runs-settled κs a x y e f p q = (p .0 ∙ sym (q .0), p .1 ∙ sym (q .1))
 
 pub sorunggyeo-group-table-settled : (κs : _) (a : _) (x y : _) (e f : _) → sorunggyeo-group-table.Learnt κs a x e → sorunggyeo-group-table.Learnt κs a y f → (x ≡ y) × (now (e .1 .1 .0) ≡ now (f .1 .1 .0))
 sorunggyeo-group-table-settled κs a x y e f p q = (p .0 ∙ sym (q .0), p .1 ∙ sym (q .1))

@@ -6,6 +6,7 @@ ghost use mathlib.Core.Path.{_≡_};
 ghost use Rattle.words.specs.Calls.{listAnswer, listLeaves, tableAnswer, tableLeaves, logAnswer, logLeaves};
 ghost use Rattle.words.specs.Calls.{replayAnswer, replayLeaves, claimAnswer, readerTakes};
 ghost use Rattle.words_index.specs.Calls.{indexAnswer, indexLeaves, listIndexAnswer, listIndexLeaves, listIndexBeside, lookupGives};
+ghost use Rattle.words_runs.specs.Calls.{runsAnswer, runsLeaves};
 ghost use Rattle.call_answers.specs.Plain.{plain, plainMove, plainLooked};
 ghost use Rattle.call_claims.specs.Parts.{motifPart};
 use call_answers::Answer;
@@ -19,6 +20,15 @@ pub extern "C" fn sorunggyeo_list(read: &[u8], mode: u32, list: &mut [u16]) -> A
         × (now (list .exit) ≡ listLeaves (now (read .entry)) mode (now (list .entry))) ⌝ }
 {
     call_answers::listed(call_lists::list(read, mode, list))
+}
+
+// The runs, with the partial copy.
+#[no_mangle]
+pub extern "C" fn sorunggyeo_runs(read: &[u8], runs: &mut [u16]) -> Answer
+    ensures { λ r. ⌜ (r ≡ plain (runsAnswer (now (read .entry)) (now (runs .entry))))
+        × (now (runs .exit) ≡ runsLeaves (now (read .entry)) (now (runs .entry))) ⌝ }
+{
+    call_answers::runs_listed(call_runs::runs(read, runs))
 }
 
 #[no_mangle]

@@ -3,67 +3,51 @@ use Prim.Native.Nat.{ℕ, _+_, _*_, _^_, _≤_, _<_}
 use mathlib.Core.Path.{_≡_}
 use mathlib.Core.Logic.{⊎-elim}
 use mathlib.Core.Bool.{true, false}
-use mathlib.Core.List.{List, _++_}
+use mathlib.Core.List.{List}
 use native.Mathlib.Omega.{arith}
 use lib.ListN.{length, getD, drop, length-append, length-take}
 use lib.Dec.{eqb}
-use Rattle.words.specs.Rows.{rows, row}
+use Rattle.words.specs.Rows.{widest, rows, row}
 use Rattle.words.specs.Reads.{most}
 use Rattle.words.specs.Lists.{lineSize}
-use Rattle.words.specs.Moves.{moveSize, nameOf, placeOf}
+use Rattle.words.specs.Moves.{moveSize}
 use Rattle.words.proofs.Tests.{either}
 use Rattle.words.proofs.Rows.{row-getD}
-use Rattle.row_moves.proofs.Read.{name-among, place-among}
+use Rattle.words.proofs.LineLayout.{line-few}
+use Rattle.words_runs.specs.Runs.{runSize}
+use Rattle.words_runs.proofs.RunLayout.{run-few}
 use Rattle.text_puts.specs.Ascii.{ascii}
-use Rattle.text_puts.specs.Numbers.{space, newline, numberText}
+use Rattle.text_puts.specs.Numbers.{space, newline}
 use Rattle.text_puts.proofs.Decimals.{number-length}
 use Rattle.text_puts.proofs.Bounds.{gather-bound, numbers-bound}
 use Rattle.text_bytes.proofs.Bytes.{bytes-bound}
-use Rattle.text_groups.specs.Groups.{colon}
-use Rattle.text_groups.proofs.Bounds.{cond-bound, spaced-bound, groups-bound, alone-bound}
-use Rattle.text_views.specs.Views.{begins, ends, underText, endText, moveText, movesText, repeatText, repeatsText}
-use Rattle.text_views.specs.Views.{widthText, widthRoom, headText, verdictText}
+use Rattle.text_groups.proofs.Bounds.{groups-bound, alone-bound}
+use Rattle.text_moves.proofs.Bounds.{moves-bound}
+use Rattle.text_views.specs.Views.{rowText, rowsText, widthText, widthRoom, headText, verdictText}
 
 row-short : (c : ℕ) (l : List ℕ) (k : ℕ) → length (row c l k) ≤ c
 unfolding row
 row-short c l k = rw (length-take c (drop (c * k) l)) (omega arith)
 
-module _ (l : List ℕ) (small : (i : ℕ) → getD l i 0 < 2 ^ 16) where
-  move-bound : (k : ℕ) → length (moveText l k) ≤ 27
-  unfolding moveText underText endText ascii
-  move-bound k =
-      let name : nameOf l k < 2 ^ 16 = name-among (λ v. v < 2 ^ 16) l small k in
-      let place : placeOf l k < 2 ^ 16 = place-among (λ v. v < 2 ^ 16) l small k in
+-- rows of any size, behind a word of at most 9 bytes
+module _ (word : List ℕ) (c : ℕ) (l : List ℕ) (brief : length word ≤ 9) (narrow : c ≤ widest) (small : (i : ℕ) → getD l i 0 < 2 ^ 16) where
+  row-bound : (k : ℕ) → length (rowText word c l k) ≤ 9 + 6 * widest
+  unfolding rowText
+  row-bound k =
+      let short : length (row c l k) ≤ c = row-short c l k in
       simp length-append
-      (omega (
-        arith,
-        cond-bound (begins l k) (ascii "  moved under " ++ numberText (nameOf l k) colon) 20
-            (simp length-append (omega (arith, number-length (nameOf l k) 5 colon (omega arith) (omega arith)))),
-        spaced-bound (placeOf l k) 5 (omega arith) (omega arith),
-        cond-bound (ends l k) (ascii "\n") 1 (omega arith),
-      ))
+      (omega (arith, brief, narrow, short, numbers-bound (row c l k) (λ i b. rw (row-getD c l k i (omega (arith, b, short))) (small (c * k + i)))))
 
-  moves-bound : length (movesText l) ≤ 27 * rows moveSize l
-  unfolding movesText
-  moves-bound = omega (arith, gather-bound (moveText l) (rows moveSize l) 0 27 (λ k a b. move-bound k))
-
-  repeat-bound : (k : ℕ) → length (repeatText l k) ≤ 9 + 6 * lineSize
-  unfolding repeatText ascii
-  repeat-bound k =
-      let short : length (row lineSize l k) ≤ lineSize = row-short lineSize l k in
-      simp length-append
-      (omega (arith, short, numbers-bound (row lineSize l k) (λ i b. rw (row-getD lineSize l k i (omega (arith, b, short))) (small (lineSize * k + i)))))
-
-  repeats-bound : length (repeatsText l) ≤ (9 + 6 * lineSize) * rows lineSize l
-  unfolding repeatsText
-  repeats-bound = omega (arith, gather-bound (repeatText l) (rows lineSize l) 0 (9 + 6 * lineSize) (λ k a b. repeat-bound k))
+  rows-bound : length (rowsText word c l) ≤ (9 + 6 * widest) * rows c l
+  unfolding rowsText
+  rows-bound = omega (arith, gather-bound (rowText word c l) (rows c l) 0 (9 + 6 * widest) (λ k a b. row-bound k))
 
 -- the text of one width
-pub width-bound : (w : ℕ) (t moves lines : List ℕ) → w < 2 ^ 64 → length t ≤ most
-    → ((i : ℕ) → getD moves i 0 < 2 ^ 16) → ((i : ℕ) → getD lines i 0 < 2 ^ 16)
-    → length (widthText w t moves lines) ≤ widthRoom (length t) (rows moveSize moves) (rows lineSize lines)
+pub width-bound : (w : ℕ) (t moves lines runs : List ℕ) → w < 2 ^ 64 → length t ≤ most
+    → ((i : ℕ) → getD moves i 0 < 2 ^ 16) → ((i : ℕ) → getD lines i 0 < 2 ^ 16) → ((i : ℕ) → getD runs i 0 < 2 ^ 16)
+    → length (widthText w t moves lines runs) ≤ widthRoom (length t) (rows moveSize moves) (rows lineSize lines) (rows runSize runs)
 unfolding widthText widthRoom ascii
-width-bound w t moves lines h few a b =
+width-bound w t moves lines runs h few a b d =
     simp length-append
     (omega (
       arith,
@@ -71,7 +55,8 @@ width-bound w t moves lines h few a b =
       groups-bound t few,
       alone-bound t few,
       moves-bound moves a,
-      repeats-bound lines b,
+      rows-bound (ascii "  repeat ") lineSize lines (omega arith) line-few b,
+      rows-bound (ascii "  run ") runSize runs (omega arith) run-few d,
     ))
 
 -- the first line and the last

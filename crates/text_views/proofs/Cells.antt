@@ -1,19 +1,12 @@
--- What the code reads of a log or a list, as the definitions say it of an entry or a row. Assumes nothing.
+-- Rows of c numbers, and one of them, as the code cuts it out. Assumes nothing.
 use Prim.Native.Nat.{ℕ, _+_, _-_, _*_, _≤_}
 use mathlib.Core.Path.{_≡_, ap}
-use mathlib.Core.Logic.{_≢_}
-use mathlib.Core.Bool.{true, not}
 use mathlib.Core.List.{List}
 use native.Mathlib.Omega.{arith}
 use native.Mathlib.Nat.{div-le-self}
 use lib.ListN.{length, take, drop}
-use lib.Dec.{eqb}
-use borrow.Author.Tests.{eq-eqb, ne-eqb}
 use Rattle.words.specs.Rows.{rows, row, part}
-use Rattle.words.specs.Moves.{moveSize, nameOf}
-use Rattle.text_views.specs.Views.{begins, ends}
 
--- rows of c numbers, and one of them
 module _ (c : ℕ) (l : List ℕ) where
   pub rows-few : rows c l ≤ length l
   unfolding rows
@@ -22,21 +15,3 @@ module _ (c : ℕ) (l : List ℕ) where
   pub row-cut : (k : ℕ) → part c l k (k + 1) ≡ row c l k
   unfolding part row
   row-cut k = let e : c * (k + 1) - c * k ≡ c = omega arith in ap (λ (v : ℕ). take v (drop (c * k) l)) e
-
--- entries of a log
-module _ (l : List ℕ) where
-  pub begins-first : (k : ℕ) → k ≡ 0 → true ≡ begins l k
-  unfolding begins
-  begins-first k e = rw (eq-eqb k 0 e)
-
-  pub begins-later : (k a b : ℕ) → k ≢ 0 → a ≡ nameOf l (k - 1) → b ≡ nameOf l k → not (eqb a b) ≡ begins l k
-  unfolding begins
-  begins-later k a b ne p q = rw (ne-eqb k 0 ne, ← p, ← q)
-
-  pub ends-last : (k : ℕ) → k + 1 ≡ rows moveSize l → true ≡ ends l k
-  unfolding ends
-  ends-last k e = rw (eq-eqb (k + 1) (rows moveSize l) e)
-
-  pub ends-earlier : (k a b : ℕ) → k + 1 ≢ rows moveSize l → a ≡ nameOf l k → b ≡ nameOf l (k + 1) → not (eqb a b) ≡ ends l k
-  unfolding ends
-  ends-earlier k a b ne p q = rw (ne-eqb (k + 1) (rows moveSize l) ne, ← p, ← q)

@@ -5,7 +5,7 @@ use native.Mathlib.Omega.{arith}
 use lib.ListN.{length-replicate}
 use lib.Seq.{length-take-le}
 use borrow.Author.Needs.{needs}
-use Rattle.bench_reads.proofs.Made.{list-room, list-told, line-few, list-few, list-inside, list-front, viewed-read, viewed-refused}
+use Rattle.bench_reads.proofs.Made.{list-room, list-told, line-few, list-few, list-whole, lines-few, viewed-read, viewed-refused}
 use Rattle.bench_reads.proofs.show.Statement.{statement}
 use Rattle.bench_reads.proofs.show.Tie as tie
 
@@ -28,8 +28,9 @@ show-read-requires c κs =
     let s = w .before .before .before .before in
     let told = list-told _ (v .listed .ensures) in (
       list-few (w .hear .ensures) told (omega (arith, s .pre .0)) (omega arith) (u .if1 .taken),
-      list-inside (w .hear .ensures) told (omega (arith, s .pre .0)) (omega arith) (u .if1 .taken),
-      list-front (w .hear .ensures) told (omega (arith, s .pre .0)) (omega arith) (u .if1 .taken),
+      list-whole (w .hear .ensures) told (omega (arith, s .pre .0)) (omega arith) (u .if1 .taken) .1,
+      list-whole (w .hear .ensures) told (omega (arith, s .pre .0)) (omega arith) (u .if1 .taken) .0,
+      lines-few (w .hear .ensures) told (omega (arith, s .pre .0)) (omega arith) (u .if1 .taken) list-room,
       s .pre .1,
     )
 

@@ -1,123 +1,137 @@
 -- `bench_shows::show_table` meets its contract: the parts cut out are those of the width, and what is shown is compared. Assumes nothing.
-use mathlib.Core.Path.{_≡_, refl, _∙_}
+use Prim.Native.Nat.{ℕ, _+_, _≤_}
+use mathlib.Core.Path.{_≡_, refl, ap, _∙_}
+use mathlib.Core.List.{List}
+use native.Mathlib.Omega.{arith}
+use lib.ListN.{length}
 use borrow.Author.Needs.{needs}
+use Rattle.words.specs.Rows.{rows}
 use Rattle.words.specs.Lists.{lineSize, periodCell}
 use Rattle.words.specs.Moves.{moveSize, widthCell}
-use Rattle.words.proofs.MoveLayout.{width-inside}
-use Rattle.words.proofs.LineLayout.{period-inside}
-use Rattle.bench_agrees.specs.Parts.{partEnd}
-use Rattle.bench_agrees.proofs.Cuts.{cut-order, cut-rows}
-use Rattle.bench_shows.specs.Places.{movesFrom, linesFrom}
+use Rattle.words.proofs.MoveLayout.{move-some, width-inside}
+use Rattle.words.proofs.LineLayout.{line-some, period-inside}
+use Rattle.words_runs.specs.Runs.{runSize, runPeriodCell}
+use Rattle.words_runs.proofs.RunLayout.{run-some, run-period-inside}
+use Rattle.bench_agrees.specs.Parts.{partFrom}
+use Rattle.bench_agrees.proofs.Cuts.{part-inside}
+use Rattle.text_views.proofs.Cells.{rows-few}
+use Rattle.bench_shows.specs.Places.{movesFrom, linesFrom, runsFrom}
 use Rattle.bench_shows.proofs.show_table.Statement.{statement}
 use Rattle.bench_shows.proofs.show_table.Tie as tie
 
-move-size-requires : tie.Need-move-size-requires
-move-size-requires c κs = search needs
+part-from-requires : tie.Need-part-from-requires
+part-from-requires c κs =
+    rw (c .width-cell .ensures, c .before .move-size .ensures) (width-inside, c .before .before .before .before .before .before .before .before .pre .2)
 
-width-cell-requires : tie.Need-width-cell-requires
-width-cell-requires c κs = search needs
-
-part-end-requires : tie.Need-part-end-requires
-part-end-requires c κs = rw (c .width-cell .ensures, c .before .move-size .ensures) (width-inside, c .before .before .before .before .before .before .before .pre .2)
-
--- where the moves of the width end
-moved-is : (c : tie.After-part-end) → let s = c .before .before .before .before .before .before .before .before in
-    c .part-end .result ≡ partEnd moveSize (s .args .log .now) widthCell (s .args .w) (s .args .p .moved)
-moved-is c = c .part-end .ensures ∙ rw (c .before .width-cell .ensures, c .before .before .move-size .ensures) refl
-
-line-size-requires : tie.Need-line-size-requires
-line-size-requires c κs = search needs
-
-period-cell-requires : tie.Need-period-cell-requires
-period-cell-requires c κs = search needs
-
-part-end-requires-2 : tie.Need-part-end-requires-2
-part-end-requires-2 c κs =
-    rw (c .period-cell .ensures, c .before .line-size .ensures)
-    (period-inside, c .before .before .before .before .before .before .before .before .before .before .pre .3)
-
--- where its lines end
-listed-is : (c : tie.After-part-end2) → let s = c .before .before .before .before .before .before .before .before .before .before .before in
-    c .part-end2 .result ≡ partEnd lineSize (s .args .list .now) periodCell (s .args .w) (s .args .p .listed)
-listed-is c = c .part-end2 .ensures ∙ rw (c .before .period-cell .ensures, c .before .before .line-size .ensures) refl
-
-move-size-requires-2 : tie.Need-move-size-requires-2
-move-size-requires-2 c κs = search needs
-
-part-requires : tie.Need-part-requires
-part-requires c κs =
-    let u = c .before .before .before .before in
-    let s = u .before .before .before .before .before .before .before .before in
-    rw (c .move-size2 .ensures)
-    (cut-order moveSize (s .args .log .now) widthCell (s .args .w) (s .args .p .moved) (moved-is u), cut-rows moveSize (s .args .log .now) widthCell (s .args .w) (s .args .p .moved) (moved-is u) (s .pre .2))
-
--- the moves of the width
-moves-are : (c : tie.After-part) → let s = c .before .before .before .before .before .before .before .before .before .before .before .before .before in
-    c .part .result .now ≡ movesFrom (s .args .log .now) (s .args .w) (s .args .p)
-unfolding movesFrom
-moves-are c = c .part .ensures ∙ rw (c .before .move-size2 .ensures, moved-is (c .before .before .before .before .before)) refl
-
-line-size-requires-2 : tie.Need-line-size-requires-2
-line-size-requires-2 c κs = search needs
-
-part-requires-2 : tie.Need-part-requires-2
-part-requires-2 c κs =
+part-from-requires-2 : tie.Need-part-from-requires-2
+part-from-requires-2 c κs =
     let u = c .before .before .before in
-    let s = u .before .before .before .before .before .before .before .before .before .before .before in
-    rw (c .line-size2 .ensures)
-    (cut-order lineSize (s .args .list .now) periodCell (s .args .w) (s .args .p .listed) (listed-is u), cut-rows lineSize (s .args .list .now) periodCell (s .args .w) (s .args .p .listed) (listed-is u) (s .pre .3))
+    rw (c .period-cell .ensures, c .before .line-size .ensures) (period-inside, u .before .before .before .before .before .before .before .before .pre .3)
 
--- and its lines
-lines-are : (c : tie.After-part2) → let s = c .before .before .before .before .before .before .before .before .before .before .before .before .before .before .before in
-    c .part2 .result .now ≡ linesFrom (s .args .list .now) (s .args .w) (s .args .p)
+part-from-requires-3 : tie.Need-part-from-requires-3
+part-from-requires-3 c κs =
+    let u = c .before .before .before .before .before .before in
+    rw (c .run-period-cell .ensures, c .before .run-size .ensures) (run-period-inside, u .before .before .before .before .before .before .before .before .pre .4)
+
+-- what was cut out: the moves of the width, ..
+moves-are : (c : tie.After-part-from) → let s = c .before .before .before .before .before .before .before .before .before in
+    c .part-from .result .now ≡ movesFrom (s .args .log .now) (s .args .w) (s .args .p)
+unfolding movesFrom
+moves-are c = c .part-from .ensures ∙ rw (c .before .width-cell .ensures, c .before .before .move-size .ensures) refl
+
+-- .. its lines, ..
+lines-are : (c : tie.After-part-from2) → let s = c .before .before .before .before .before .before .before .before .before .before .before .before in
+    c .part-from2 .result .now ≡ linesFrom (s .args .list .now) (s .args .w) (s .args .p)
 unfolding linesFrom
-lines-are c = c .part2 .ensures ∙ rw (c .before .line-size2 .ensures, listed-is (c .before .before .before .before)) refl
+lines-are c = c .part-from2 .ensures ∙ rw (c .before .period-cell .ensures, c .before .before .line-size .ensures) refl
+
+-- .. and its runs
+runs-are : (c : tie.After-part-from3) → let s = c .before .before .before .before .before .before .before .before .before .before .before .before .before .before .before in
+    c .part-from3 .result .now ≡ runsFrom (s .args .runs .now) (s .args .w) (s .args .p)
+unfolding runsFrom
+runs-are c = c .part-from3 .ensures ∙ rw (c .before .run-period-cell .ensures, c .before .before .run-size .ensures) refl
 
 collect-width-requires : tie.Need-collect-width-requires
 collect-width-requires c κs =
-    let u = c .before in
-    let v = u .before .before in
-    let s = v .before .before .before .before .before .before .before .before .before .before .before .before .before in
-    (rw (lines-are u, moves-are v) (s .pre .0), s .pre .1)
+    let r = c .before in
+    let l = r .before .before .before in
+    let m = l .before .before .before in
+    let s = m .before .before .before .before .before .before .before .before .before in
+    (rw (runs-are r, lines-are l, moves-are m) (s .pre .0), s .pre .1)
 
-agree-at-requires : tie.Need-agree-at-requires
-agree-at-requires c κs = search needs
+-- the place after the rows that were cut out can be counted
+passed : (c j : ℕ) (l : List ℕ) (w k : ℕ) → 1 ≤ c → k ≤ rows c l → k + rows c (partFrom c l j w k) ≤ length l
+passed c j l w k some h = omega (arith, part-inside c l j w k some h, rows-few c l)
 
-first-differ-requires : tie.Need-first-differ-requires
-first-differ-requires c κs = search needs
+-- so many moves, lines and runs were shown
+moved-is : (c : tie.After-entries) → let s = c .before .before .before .before .before .before .before .before .before .before .before .before .before .before .before .before .before .before .before .before .before in
+    c .entries .result ≡ rows moveSize (movesFrom (s .args .log .now) (s .args .w) (s .args .p))
+moved-is c = c .entries .ensures ∙ ap (rows moveSize) (moves-are (c .before .before .before .before .before .before .before .before .before .before .before .before))
 
-same-length : tie.Need-same-length
-same-length c = search needs
+listed-is : (c : tie.After-room) → let s = c .before .before .before .before .before .before .before .before .before .before .before .before .before .before .before .before .before .before .before .before .before .before in
+    c .room .result ≡ rows lineSize (linesFrom (s .args .list .now) (s .args .w) (s .args .p))
+listed-is c = c .room .ensures ∙ ap (rows lineSize) (lines-are (c .before .before .before .before .before .before .before .before .before .before))
+
+ran-is : (c : tie.After-room2) → let s = c .before .before .before .before .before .before .before .before .before .before .before .before .before .before .before .before .before .before .before .before .before .before .before in
+    c .room2 .result ≡ rows runSize (runsFrom (s .args .runs .now) (s .args .w) (s .args .p))
+ran-is c = c .room2 .ensures ∙ ap (rows runSize) (runs-are (c .before .before .before .before .before .before .before .before))
+
+add-moved : tie.Need-add-moved
+unfolding movesFrom
+add-moved c =
+    let s = c .before .before .before .before .before .before .before .before .before .before .before .before .before .before .before .before .before .before .before .before .before in
+    omega (arith, moved-is c, passed moveSize widthCell (s .args .log .now) (s .args .w) (s .args .p .moved) move-some (s .pre .2))
+
+add-listed : tie.Need-add-listed
+unfolding linesFrom
+add-listed c =
+    let s = c .before .before .before .before .before .before .before .before .before .before .before .before .before .before .before .before .before .before .before .before .before .before in
+    omega (arith, listed-is c, passed lineSize periodCell (s .args .list .now) (s .args .w) (s .args .p .listed) line-some (s .pre .3))
+
+add-ran : tie.Need-add-ran
+unfolding runsFrom
+add-ran c =
+    let s = c .before .before .before .before .before .before .before .before .before .before .before .before .before .before .before .before .before .before .before .before .before .before .before in
+    omega (arith, ran-is c, passed runSize runPeriodCell (s .args .runs .now) (s .args .w) (s .args .p .ran) run-some (s .pre .4))
 
 returns : tie.Need-returns
 returns c =
-    let u = c .before in
-    let v = u .before .before .before in
-    let l = v .before .before in
-    let m = l .before .before in
+    let v = c .before in
+    let a = v .before .before .before in
+    let u = a .before .before .before in
+    let r = u .before .before in
+    let l = r .before .before .before in
+    let m = l .before .before .before in
+    let p = m .before .before .before .before .before .before .before .before .before .args .p in
     record {
-      moved = moved-is (m .before .before .before .before .before);
-      listed = listed-is (m .before .before);
-      differ = c .first-differ .ensures ∙ rw (u .agree-at .ensures, lines-are l) refl;
-      collects = rw (lines-are l, moves-are m) at (v .collect-width .ensures);
+      moved = ap (λ (k : ℕ). p .moved + k) (moved-is (v .before .before));
+      listed = ap (λ (k : ℕ). p .listed + k) (listed-is (v .before));
+      ran = ap (λ (k : ℕ). p .ran + k) (ran-is v);
+      differ = c .first-differ .ensures ∙ rw (a .agree-at .ensures, lines-are l) refl;
+      collects = rw (runs-are r, lines-are l, moves-are m) at (u .collect-width .ensures);
     }
 
 pub show-table-spec : {M : Type 1} → statement M
 show-table-spec =
     tie.close
     (tie.spec
-    move-size-requires
-    width-cell-requires
-    part-end-requires
-    line-size-requires
-    period-cell-requires
-    part-end-requires-2
-    move-size-requires-2
-    part-requires
-    line-size-requires-2
-    part-requires-2
+    (λ c κs. search needs)
+    (λ c κs. search needs)
+    part-from-requires
+    (λ c κs. search needs)
+    (λ c κs. search needs)
+    part-from-requires-2
+    (λ c κs. search needs)
+    (λ c κs. search needs)
+    part-from-requires-3
     collect-width-requires
-    agree-at-requires
-    first-differ-requires
-    same-length
+    (λ c κs. search needs)
+    (λ c κs. search needs)
+    add-moved
+    (λ c κs. search needs)
+    add-listed
+    (λ c κs. search needs)
+    add-ran
+    (λ c κs. search needs)
+    (λ c. search needs)
     returns)

@@ -12,18 +12,18 @@ use Rattle.bench_shows.specs.Collecting.{Collects}
 use Rattle.bench_shows.proofs.Collecting.{collects-none, collects-next}
 use Rattle.bench_widths.specs.Views.{widthView, widthsOf}
 use Rattle.bench_widths.specs.Reaching.{Reached, Replays}
-use Rattle.bench_widths.proofs.Reaching.{widths-few, reached-first, brief-own, moved-inside, listed-inside, width-collects, reached-next}
+use Rattle.bench_widths.proofs.Reaching.{widths-few, reached-first, brief-own, moved-inside, listed-inside, ran-inside, width-collects, reached-next}
 use Rattle.bench_widths.proofs.Replaying.{own-formed, replays-first, replays-table, replays-next}
 use Rattle.bench_widths.proofs.show_widths.Statement.{statement}
 use Rattle.bench_widths.proofs.show_widths.Tie as tie
 
 abbrev Inv-loop : tie.InvT-loop
-Inv-loop read log list buf₀ n top name₀ mark₀ lead₀ part₀ from₀ p₀ w₀ buf name mark lead part from p w =
+Inv-loop read log list runs buf₀ n top name₀ mark₀ lead₀ part₀ from₀ p₀ w₀ buf name mark lead part from p w =
     (w ≤ top) × Reached read (w + 1) p × Replays read log (w + 1) name mark lead part from ×
     Collects buf₀ (p₀ .out) (gather (widthView read) w 1) buf (p .out)
 
 abbrev μ-loop : tie.MeasureT-loop
-μ-loop read log list buf₀ n top name₀ mark₀ lead₀ part₀ from₀ p₀ w₀ buf name mark lead part from p w = top - w
+μ-loop read log list runs buf₀ n top name₀ mark₀ lead₀ part₀ from₀ p₀ w₀ buf name mark lead part from p w = top - w
 
 widths-requires : tie.Need-widths-requires Inv-loop μ-loop
 widths-requires c κs = search needs
@@ -31,22 +31,22 @@ widths-requires c κs = search needs
 -- so few widths that u16 counts them
 top-few : (c : tie.After-widths Inv-loop μ-loop) → c .widths .result ≤ 500
 top-few c =
-    let s = c .before .before .before .before .before in
+    let s = c .before .before .before .before .before .before in
     omega (arith, c .widths .ensures, widths-few (length (s .args .read .now)) (s .pre .0 .few))
 
 cast-top : tie.Need-cast-top Inv-loop μ-loop
 cast-top c = omega (arith, top-few c)
 
 cast-first-groups : tie.Need-cast-first-groups Inv-loop μ-loop
-cast-first-groups c = omega (arith, c .before .before .before .before .before .before .pre .0 .few)
+cast-first-groups c = omega (arith, c .before .before .before .before .before .before .before .pre .0 .few)
 
 first-groups-requires : tie.Need-first-groups-requires Inv-loop μ-loop
-first-groups-requires c κs = (c .before .before .before .before .before .before .pre .0 .few, refl, refl)
+first-groups-requires c κs = (c .before .before .before .before .before .before .before .pre .0 .few, refl, refl)
 
 loop-holds : tie.Need-loop-holds Inv-loop μ-loop
 unfolding gather
 loop-holds c =
-    let s = c .before .before .before .before .before .before .before in
+    let s = c .before .before .before .before .before .before .before .before in
     let e = c .first-groups .ensures in (
       omega arith,
       reached-first _ _,
@@ -70,7 +70,7 @@ show-table-requires : tie.Need-show-table-requires Inv-loop μ-loop
 show-table-requires c κs =
     let u = c .before .before .before in
     let v = u .before .before .before in
-    let s = v .before .before .before .before .before in
+    let s = v .before .before .before .before .before .before in
     let i = u .loop .inv in
     let g = i .2 .groups in
     let here : u .loop .w + 1 ≤ widthsOf (length (s .args .read .now)) = omega (arith, v .widths .ensures) in (
@@ -78,6 +78,7 @@ show-table-requires c κs =
       record { room = omega (arith, i .3 .same, s .pre .1 .room); inside = i .3 .inside },
       moved-inside (s .pre .0) (i .1) here,
       listed-inside (s .pre .0) (i .1) here,
+      ran-inside (s .pre .0) (i .1) here,
     )
 
 cast-replay-width : tie.Need-cast-replay-width Inv-loop μ-loop
@@ -88,7 +89,7 @@ cast-replay-width c =
 replay-width-requires : tie.Need-replay-width-requires Inv-loop μ-loop
 replay-width-requires c κs =
     let u = c .before .before .before .before .before .before .before .before .before .before in
-    let s = u .before .before .before .before .before .before .before .before in
+    let s = u .before .before .before .before .before .before .before .before .before in
     let r = u .loop .inv .2 in
     (r .groups, r .rooms, own-formed (s .pre .0), r .splits)
 
@@ -100,7 +101,7 @@ loop-again c =
     let t = c .before .before .before .before .before .before .before in
     let u = t .before .before .before .before in
     let v = u .before .before .before in
-    let s = v .before .before .before .before .before in
+    let s = v .before .before .before .before .before .before in
     let i = u .loop .inv in
     let here : u .loop .w + 1 ≤ widthsOf (length (s .args .read .now)) = omega (arith, v .widths .ensures) in
     let e = replays-table (s .pre .0) (omega arith) here (i .2) in (
@@ -117,7 +118,7 @@ returns : tie.Need-returns Inv-loop μ-loop
 returns c =
     let u = c .before in
     let v = u .before .before .before in
-    let s = v .before .before .before .before .before in
+    let s = v .before .before .before .before .before .before in
     let e : u .loop .w ≡ widthsOf (length (s .args .read .now)) = omega (arith, v .widths .ensures) in
     (rw e at (u .loop .inv .1), rw e at (u .loop .inv .3))
 

@@ -21,13 +21,13 @@ returns c =
     (omega (arith, c .before .before .before .before .if1 .taken, c .before .before .before .before .before .room .ensures, same-room _ _ _ (s .args .index .now) (s .pre .0) (s .pre .1) _ _ L)) _ (L .same))
 
 -- the lines have room, so that their numbers lie in the slice
-few-lines : (c : tie.After-line-size) → c .before .before .before .before .before .before .list-widths .result .lines ≤ rows lineSize (c .before .before .before .before .before .before .before .before .before .before .before .args .out .now)
+few-lines : (c : tie.After-line-size) → c .before .before .before .before .before .before .list-widths .result .rows ≤ rows lineSize (c .before .before .before .before .before .before .before .before .before .before .before .args .out .now)
 few-lines c =
     let w = c .before .before .before .before .before .before in
     let s = w .before .before .before .before .before in
     omega (arith, c .before .if1 .left, c .before .before .room .ensures, same-room _ _ _ (s .args .index .now) (s .pre .0) (s .pre .1) _ _ (w .list-widths .ensures .0))
 
-fits : (c : tie.After-line-size) → c .line-size .result * c .before .before .before .before .before .before .list-widths .result .lines ≤ length (c .before .before .before .before .before .before .list-widths .last .0)
+fits : (c : tie.After-line-size) → c .line-size .result * c .before .before .before .before .before .before .list-widths .result .rows ≤ length (c .before .before .before .before .before .before .list-widths .last .0)
 fits c =
     let w = c .before .before .before .before .before .before in
     let s = w .before .before .before .before .before in

@@ -1,7 +1,7 @@
 -- `text_views::put_head` meets its contract: the four pieces of its line, one after another. Assumes nothing.
 use borrow.Author.Needs.{needs}
 use Rattle.text_puts.specs.Ascii.{ascii}
-use Rattle.text_views.proofs.Rows.{read-room, length-room, bytes-room, head-end-room, head-puts}
+use Rattle.text_views.proofs.Pieces.{read-room, length-room, bytes-room, head-end-room, head-puts}
 use Rattle.text_views.proofs.put_head.Statement.{statement}
 use Rattle.text_views.proofs.put_head.Tie as tie
 
