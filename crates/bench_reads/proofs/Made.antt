@@ -6,7 +6,7 @@ use mathlib.Core.Logic.{_≢_}
 use mathlib.Core.List.{List, [], _∷_}
 use native.Mathlib.Omega.{arith}
 use native.Mathlib.Nat.{mul-le-mul-left, eq-of-mul-eq-mul-left}
-use lib.ListN.{length, length-append, length-replicate, replicate, getD, take, drop}
+use lib.ListN.{length, length-append, length-replicate, replicate, take, drop}
 use lib.Seq.{length-take-le, take-at}
 use lib.Dec.{eqb}
 use borrow.Author.Tests.{eq-eqb, ne-eqb, le-ltb}

@@ -5,7 +5,7 @@ ghost use lib.ListN.{length};
 ghost use Rattle.bench_shows.specs.Collecting.{Roomy};
 ghost use Rattle.bench_reads.specs.Views.{viewed};
 ghost use Rattle.text_streams.specs.Cuts.{Within};
-ghost use Rattle.text_streams.specs.Runs.{Advances, Stopped, Ran};
+ghost use Rattle.text_streams.specs.Programs.{Advances, Stopped, Ran};
 use bench_reads::show;
 use text_outs::Out;
 use text_streams::State;

@@ -1,7 +1,7 @@
 -- A turn of a program: with a line found and its text made, or with none found, the program goes on or has stopped. Assumes nothing.
 use Prim.Native.Nat.{ℕ, _≤_, _<_}
 use mathlib.Core.Path.{_≡_, refl, sym, ap, _∙_}
-use mathlib.Core.Logic.{_⊎_, inl, ⊎-elim}
+use mathlib.Core.Logic.{inl, ⊎-elim}
 use mathlib.Core.Bool.{Bool, true, false, false≢true}
 use mathlib.Core.List.{List, [], _∷_}
 use native.Mathlib.Omega.{arith}
@@ -14,12 +14,12 @@ use Rattle.io.specs.Counts.{clamped}
 use Rattle.text_lines.specs.Lines.{lastLine, counted, Keeps}
 use Rattle.text_streams.specs.Cuts.{Within, stopped, Cut, Filled, Over, Broken, Spent, Turned}
 use Rattle.text_outs.specs.Outputs.{Adds}
-use Rattle.text_streams.specs.Runs.{going, Stands, Stopped, Advances}
+use Rattle.text_streams.specs.Programs.{going, Stands, Stopped, Advances}
 use Rattle.text_outs.specs.declared.Out.{Out}
 use Rattle.text_streams.specs.declared.State.{State}
 use Rattle.text_streams.specs.declared.Next.{Next}
 use Rattle.text_streams.proofs.Pending.{cut-within}
-use Rattle.text_streams.proofs.Runs.{stands-stop, soFar, stands-cut, stands-filled, stopped-none, stopped-last, stopped-broken}
+use Rattle.text_streams.proofs.Programs.{stands-stop, soFar, stands-cut, stands-filled, stopped-none, stopped-last, stopped-broken}
 
 -- a line that is counted as empty is empty
 last-none : {x line : List ℕ} {len : ℕ} → Keeps x len line → ltb 0 len ≡ false → lastLine x ≡ []

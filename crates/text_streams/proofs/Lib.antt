@@ -1,5 +1,5 @@
 pub mod Turns
 pub mod Pending
-pub mod Runs
+pub mod Programs
 pub mod Advancing
 pub mod Settled

@@ -1,11 +1,11 @@
 // Standard input cut into lines, and standard output collected into large writes. A turn takes the bytes that are there up to the next newline
 // or, where there is none, writes out what is collected and makes one read call: a program that waits for more has said all that it knows.
-// The contracts speak of all that read calls gave and write calls took (`text_pipes`): specs/Runs.antt says what a program then owes.
+// The contracts speak of all that read calls gave and write calls took (`text_pipes`): specs/Programs.antt says what a program then owes.
 ghost use mathlib.Core.Path.{_≡_};
 ghost use Prim.Native.Nat.{_-_, _^_, _≤_};
 ghost use lib.ListN.{length};
 ghost use Rattle.text_streams.specs.Cuts.{Within, stopped, Waited, Turned};
-ghost use Rattle.text_streams.specs.Runs.{beginning, going};
+ghost use Rattle.text_streams.specs.Programs.{beginning, going};
 use libc::STDIN_FILENO;
 use text_lines::take_part;
 use text_outs::Out;

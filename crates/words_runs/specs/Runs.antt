@@ -18,7 +18,7 @@ again x p k = eqb (letter x k) (letter x (k + p))
 unfoldable pub periodic : List ℕ → ℕ → ℕ → ℕ → Bool
 periodic x a b p = every (again x p) (suc b - (a + p)) a
 
--- the least period of the stretch; its length is one
+-- the least period of the stretch; its own length is a period too
 unfoldable pub leastPeriod : List ℕ → ℕ → ℕ → ℕ
 leastPeriod x a b = first (periodic x a b) (b - a) 1
 

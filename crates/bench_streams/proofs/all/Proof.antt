@@ -7,8 +7,8 @@ use native.Mathlib.Omega.{arith}
 use lib.ListN.{length}
 use borrow.Author.Needs.{needs}
 use Rattle.text_streams.specs.Cuts.{Within}
-use Rattle.text_streams.specs.Runs.{Stands}
-use Rattle.text_streams.proofs.Runs.{stands-first, stands-stop, stands-next}
+use Rattle.text_streams.specs.Programs.{Stands}
+use Rattle.text_streams.proofs.Programs.{stands-first, stands-stop, stands-next}
 use Rattle.bench_reads.specs.Views.{viewed}
 use Rattle.bench_streams.proofs.all.Statement.{statement}
 use Rattle.bench_streams.proofs.all.Tie as tie

@@ -1,5 +1,5 @@
 -- `bench_streams::run` meets its contract: what is still collected when the lines are through is written. Assumes nothing.
-use Rattle.text_streams.proofs.Runs.{ran}
+use Rattle.text_streams.proofs.Programs.{ran}
 use borrow.Author.Needs.{needs}
 use Rattle.bench_streams.proofs.run.Statement.{statement}
 use Rattle.bench_streams.proofs.run.Tie as tie

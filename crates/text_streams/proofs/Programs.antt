@@ -15,7 +15,7 @@ use Rattle.text_pipes.proofs.Accounts.{account-none, account-call, account-more
 use Rattle.text_lines.specs.Lines.{lastLine, linesOf, Plain, Keeps}
 use Rattle.text_streams.specs.Cuts.{chunkOf, Within, pending, endOf, restOf, filled}
 use Rattle.text_outs.specs.Outputs.{Begun, Told, Adds}
-use Rattle.text_streams.specs.Runs.{texts, beginning, Stands, Stopped, Ran}
+use Rattle.text_streams.specs.Programs.{texts, beginning, Stands, Stopped, Ran}
 use Rattle.text_outs.specs.declared.Out.{Out}
 use Rattle.text_streams.specs.declared.State.{State}
 use Rattle.text_streams.specs.declared.Source.{Source}
