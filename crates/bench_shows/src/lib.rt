@@ -128,13 +128,13 @@ pub fn show_table(
     let first = p.ran;
     let o = p.out;
     let moves = part_from(log, move_size(), width_cell(), w, from);
+    let moved = from + entries(moves);
     let lines = part_from(list, line_size(), period_cell(), w, start);
+    let listed = start + row_lines::room(lines);
     let maximal = part_from(runs, run_size(), run_period_cell(), w, first);
+    let ran = first + row_runs::room(maximal);
     let after = collect_width(w, table, moves, lines, maximal, buf, o);
     let agree = bench_agrees::agree_at(table, w, lines);
-    let moved = from + entries(moves);
-    let listed = start + row_lines::room(lines);
-    let ran = first + row_runs::room(maximal);
     Place {
         moved,
         listed,

@@ -74,14 +74,17 @@ module _ (w : ℕ) (t moves lines runs : List ℕ) {buf : List ℕ} {at : ℕ} (
   abbrev named : List ℕ
   named = ascii "width " ++ numberText w newline
 
-  width-is : widthText w t moves lines runs ≡ (named ++ (groupsText t ++ aloneText t) ++ movesText moves) ++ repeats ++ ran
+  abbrev pub front : List ℕ
+  front = named ++ (groupsText t ++ aloneText t) ++ movesText moves
+
+  width-is : widthText w t moves lines runs ≡ front ++ repeats ++ ran
   unfolding widthText
   width-is = rw (append-assoc named (groupsText t) (aloneText t))
 
-  width-whole : Room buf at ((named ++ (groupsText t ++ aloneText t) ++ movesText moves) ++ repeats ++ ran)
+  width-whole : Room buf at (front ++ repeats ++ ran)
   width-whole = rw width-is at h
 
-  width-front : Room buf at (named ++ (groupsText t ++ aloneText t) ++ movesText moves)
+  width-front : Room buf at front
   width-front = first-room _ _ _ width-whole
 
   named-front : Room buf at named
@@ -102,16 +105,17 @@ module _ (w : ℕ) (t moves lines runs : List ℕ) {buf : List ℕ} {at : ℕ} (
         pub moves-room : Room m₃ a₃ (movesText moves)
         moves-room = third-room _ _ _ width-front (both-puts _ _ named-front p₁ p₂) p₃
 
-        module _ {m₄ : List ℕ} {a₄ : ℕ} (p₄ : Puts m₃ a₃ (movesText moves) m₄ a₄) where
-          front-put : Puts buf at (named ++ (groupsText t ++ aloneText t) ++ movesText moves) m₄ a₄
-          front-put = three-puts _ _ _ width-front (both-puts _ _ named-front p₁ p₂) p₃ p₄
+        pub front-puts : {m₄ : List ℕ} {a₄ : ℕ} → Puts m₃ a₃ (movesText moves) m₄ a₄ → Puts buf at front m₄ a₄
+        front-puts p₄ = three-puts _ _ _ width-front (both-puts _ _ named-front p₁ p₂) p₃ p₄
 
-          pub lines-room : Room m₄ a₄ repeats
-          lines-room = second-room _ _ _ width-whole front-put
+  -- behind the moves
+  module _ {m₄ : List ℕ} {a₄ : ℕ} (p : Puts buf at front m₄ a₄) where
+    pub lines-room : Room m₄ a₄ repeats
+    lines-room = second-room _ _ _ width-whole p
 
-          module _ {m₅ : List ℕ} {a₅ : ℕ} (p₅ : Puts m₄ a₄ repeats m₅ a₅) where
-            pub runs-room : Room m₅ a₅ ran
-            runs-room = third-room _ _ _ width-whole front-put p₅
+    module _ {m₅ : List ℕ} {a₅ : ℕ} (q : Puts m₄ a₄ repeats m₅ a₅) where
+      pub runs-room : Room m₅ a₅ ran
+      runs-room = third-room _ _ _ width-whole p q
 
-            pub width-puts : {new : List ℕ} {end : ℕ} → Puts m₅ a₅ ran new end → Puts buf at (widthText w t moves lines runs) new end
-            width-puts q = rw width-is (three-puts _ _ _ width-whole front-put p₅ q)
+      pub width-puts : {new : List ℕ} {end : ℕ} → Puts m₅ a₅ ran new end → Puts buf at (widthText w t moves lines runs) new end
+      width-puts r = rw width-is (three-puts _ _ _ width-whole p q r)

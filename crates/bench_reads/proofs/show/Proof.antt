@@ -5,7 +5,8 @@ use native.Mathlib.Omega.{arith}
 use lib.ListN.{length-replicate}
 use lib.Seq.{length-take-le}
 use borrow.Author.Needs.{needs}
-use Rattle.bench_reads.proofs.Made.{list-room, list-told, line-few, list-few, list-whole, lines-few, viewed-read, viewed-refused}
+use Rattle.bench_reads.proofs.Made.{list-room}
+use Rattle.bench_reads.proofs.Heard.{list-told, line-few, list-few, list-whole, lines-few, viewed-read, viewed-refused}
 use Rattle.bench_reads.proofs.show.Statement.{statement}
 use Rattle.bench_reads.proofs.show.Tie as tie
 

@@ -11,7 +11,8 @@ use Rattle.call_answers.specs.declared.Answer.{Answer as Plain}
 use Rattle.bench_reads.specs.Views.{readView}
 use Rattle.bench_shows.proofs.Collecting.{collects-join}
 use Rattle.bench_widths.proofs.Reaching.{widths-few}
-use Rattle.bench_reads.proofs.Made.{log-room, runs-room, log-whole, runs-whole, taken-size, verdict-agrees}
+use Rattle.bench_reads.proofs.Made.{log-room, runs-room, log-whole, runs-whole}
+use Rattle.bench_reads.proofs.Verdict.{taken-size, verdict-agrees}
 use Rattle.bench_reads.proofs.show_read.Statement.{statement}
 use Rattle.bench_reads.proofs.show_read.Tie as tie
 
