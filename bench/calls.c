@@ -42,11 +42,13 @@ static void both_exact(const uint8_t *x, size_t n) { sorunggyeo_list_index(x, n,
 static void alone(const uint8_t *x, size_t n) { (void)x, (void)n, sorunggyeo_index(out, 3 * lines, beside, 4 * entries); }
 static void lookup(const uint8_t *x, size_t n) { (void)x, (void)n, sorunggyeo_lookup(beside, 4 * entries, 0); }
 static void claim(const uint8_t *x, size_t n) { sorunggyeo_claim(x, n, 1, n / 2, 2); }
+static void claim_bases(const uint8_t *x, size_t n) { sorunggyeo_claim(x, n, 1, 1, n); }
+static void claim_whole(const uint8_t *x, size_t n) { sorunggyeo_claim(x, n, 1, n, 1); }
 
 static const struct { const char *name; void (*before)(const uint8_t *, size_t), (*call)(const uint8_t *, size_t); } calls[] = {
     {"list", nothing, list}, {"runs", nothing, runs}, {"table", nothing, table}, {"log", nothing, own}, {"replay", own, replay}, {"replay_all", all, replay},
     {"list_index", nothing, both}, {"list_index_exact", lined, both_exact}, {"index", lined, alone}, {"lookup", lined, lookup},
-    {"claim", nothing, claim}};
+    {"claim", nothing, claim}, {"claim_bases", nothing, claim_bases}, {"claim_whole", nothing, claim_whole}};
 
 int main(int argc, char **argv)
 {

@@ -12,8 +12,8 @@
 
 /* Raised by one whenever a struct, a call's arguments, the meaning of a number or the answer to the same input changes. A program that tests it (#if)
    when it is compiled tells this header from one that it was not written for. Version 1 is the header before this number, whose answers had one value;
-   in version 2 N was a letter like any other. */
-#define SORUNGGYEO_VERSION 3
+   in version 2 N was a letter like any other; in version 3 a claim was answered 1 for yes and 0 for no. */
+#define SORUNGGYEO_VERSION 4
 
 #ifdef __cplusplus
 extern "C" {
@@ -40,11 +40,19 @@ enum {
     SORUNGGYEO_INDEX_FULL = 7     /* the index has room for fewer entries than there are; the value is the entries; nothing is changed, the list neither */
 };
 
+/* what a claim is told: the value of sorunggyeo_claim where it is not refused. There is no 0: a program that took 0 for no must be written anew */
+enum {
+    SORUNGGYEO_CLAIM_YES = 1,     /* it is a repeat */
+    SORUNGGYEO_CLAIM_COPIES = 2,  /* no: `more` is how often that motif stands there in a row, 1 or more; or the claim is of one copy, and that never is a repeat */
+    SORUNGGYEO_CLAIM_SHORTER = 3, /* no: the motif is a shorter one repeated; `more` is the length of its primitive root */
+    SORUNGGYEO_CLAIM_OUTSIDE = 4  /* no: a 0 among the three, or a last byte beyond the read */
+};
+
 /* 0 for success or the number of a refusal, and what is returned with it */
 typedef struct {
     uint32_t number;
     uint64_t value;
-    uint64_t more; /* a second value, of sorunggyeo_list_index; 0 where there is none */
+    uint64_t more; /* a second value, of sorunggyeo_list_index and of sorunggyeo_claim; 0 where there is none */
 } sorunggyeo_answer;
 
 /* a part of a read: `count` bytes from read + from on */
@@ -92,10 +100,12 @@ sorunggyeo_answer sorunggyeo_log(const uint8_t *read, size_t n, uint16_t *log, s
 sorunggyeo_answer sorunggyeo_replay(const uint8_t *read, size_t n, const uint16_t *log, size_t numbers, uint32_t width,
                                     uint16_t *table, size_t room);
 
-/* Is (start, period, copies) a repeat of the read? The value is 1 for yes and 0 for no. Refuses by 1. */
+/* Is (start, period, copies) a repeat of the read? The value is the verdict, SORUNGGYEO_CLAIM_.., and `more` the number told with it; judged outside, then shorter, then
+   by the count. Refuses by 1. */
 sorunggyeo_answer sorunggyeo_claim(const uint8_t *read, size_t n, uint32_t start, uint32_t period, uint32_t copies);
 
-/* The motif of a true claim as that part of the read; the empty part at the read's front for any other claim, or a read over the limit. */
+/* The motif of a true claim as that part of the read; the root from the claimed start on where the verdict is SORUNGGYEO_CLAIM_SHORTER; the empty part at the read's front
+   for any other claim, or a read over the limit. */
 sorunggyeo_part sorunggyeo_motif(const uint8_t *read, size_t n, uint32_t start, uint32_t period, uint32_t copies);
 
 /* The next whole entry of a log as it stands, and the place one further; or that the log has ended, and the place kept. */

@@ -1,11 +1,12 @@
 /* Runs the calls from C and prints what the slow program prints, for c/check to compare:
      test lists|leading|logs < READS           every read's list, leading repeats, or log
      test runs < READS                         every read's runs
+     test claims < READS                       what claims all over every read are told, summed up
      test two_letters                          the runs of all words of A and C up to 12 letters, summed up length by length
      test indexes < READS                      every read's period index, made with the list and from the list alone
      test tables TABLES < READS                every read's tables at the widths that the file TABLES has
      test calls                                what crates/run_calls prints, and the calls on empty slices that are null
-   Besides, no answer but one has a second value, in `indexes` each period is looked up, in `lists` each line is claimed and its motif taken, in `runs` each is looked at base by base, in `logs` the log is walked by the reader, and in
+   Besides, no answer but two has a second value, in `indexes` each period is looked up, in `lists` each line is claimed, also with a copy more or less, and its motif taken, in `runs` each is looked at base by base, in `logs` the log is walked by the reader, and in
    `tables` the replay of the read's own log must give the same table; what fails prints a line that no stored output has. */
 #include "sorunggyeo.h"
 #include <stdio.h>
@@ -17,14 +18,14 @@ static uint8_t read[WIDE];
 static uint64_t beside[4 * SORUNGGYEO_PERIODS], alone[4 * SORUNGGYEO_PERIODS];
 static uint16_t list[LINES * SORUNGGYEO_LINE], log_[SORUNGGYEO_LOG_MOST], table[SORUNGGYEO_MOST], other[SORUNGGYEO_MOST];
 
-_Static_assert(SORUNGGYEO_VERSION == 3 && sizeof(sorunggyeo_answer) == 24, "the header that this program was written for");
+_Static_assert(SORUNGGYEO_VERSION == 4 && sizeof(sorunggyeo_answer) == 24, "the header that this program was written for");
 
 static void expect(int ok, const char *what)
 {
     if (!ok) printf("wrong: %s\n", what);
 }
 
-/* an answer of one value, as all are but that of list and index in one */
+/* an answer of one value, as all are but that of list and index in one, and of a claim */
 static sorunggyeo_answer one(sorunggyeo_answer a)
 {
     expect(a.more == 0, "there is no second value");
@@ -60,12 +61,22 @@ static void wide_numbers(const uint64_t *a, size_t n)
 
 /* ---- every read against the stored results */
 
+/* is the claim told this? */
+static int told(size_t n, uint32_t i, uint32_t p, uint32_t e, uint64_t verdict, uint64_t number)
+{
+    sorunggyeo_answer a = sorunggyeo_claim(read, n, i, p, e);
+    return a.number == SORUNGGYEO_OK && a.value == verdict && a.more == number;
+}
+
 static void claim_line(size_t n, uint32_t i, uint32_t p, uint32_t e)
 {
-    sorunggyeo_part u = sorunggyeo_motif(read, n, i, p, e);
-    expect(one(sorunggyeo_claim(read, n, i, p, e)).value == 1, "a line of the list is a true claim");
-    expect(one(sorunggyeo_claim(read, n, i, p, e + 1)).value == 0, "with a copy more it is not");
-    expect(u.from == i - 1 && u.count == p, "its motif is that part of the read");
+    sorunggyeo_part u = sorunggyeo_motif(read, n, i, p, e), v = sorunggyeo_motif(read, n, i, 2 * p, 1);
+    int fits = i + p * (e + 1) <= n + 1;
+    expect(told(n, i, p, e, SORUNGGYEO_CLAIM_YES, 0), "a line of the list is a true claim");
+    expect(told(n, i, p, e + 1, fits ? SORUNGGYEO_CLAIM_COPIES : SORUNGGYEO_CLAIM_OUTSIDE, fits ? e : 0), "with a copy more it is not");
+    expect(told(n, i, p, e - 1, SORUNGGYEO_CLAIM_COPIES, e), "nor with one less");
+    expect(told(n, i, 2 * p, e / 2, SORUNGGYEO_CLAIM_SHORTER, p), "nor as the motif twice over, whose root is the motif");
+    expect(u.from == i - 1 && u.count == p && v.from == u.from && v.count == p, "its motif is that part of the read, by both");
     expect(!memchr(read + i - 1, 'N', p * e), "no repeat rests on an unread base");
 }
 
@@ -111,7 +122,28 @@ static void print_runs(size_t n)
     }
 }
 
-/* of all words of a length: how many runs they have, and their numbers summed up (FNV-1a) */
+/* a number more of a sum in which a place that differs is seen (FNV-1a) */
+static void add(uint32_t *sum, uint32_t number)
+{
+    *sum = (*sum ^ number) * 16777619u;
+}
+
+/* starts and periods over the read and past it, up to 26 of each, with 0 to 4 copies */
+static void print_claims(size_t n)
+{
+    uint32_t counts[5] = {0}, sum = 2166136261u, step = 1 + n / 24;
+    for (uint32_t i = 0; i < n + 2; i += step)
+        for (uint32_t p = 0; p < n + 2; p += step)
+            for (uint32_t e = 0; e < 5; e++) {
+                sorunggyeo_answer a = sorunggyeo_claim(read, n, i, p, e);
+                sorunggyeo_part u = sorunggyeo_motif(read, n, i, p, e);
+                counts[a.number == SORUNGGYEO_OK && a.value < 5 ? a.value : 0]++;
+                add(&sum, a.number), add(&sum, a.value), add(&sum, a.more), add(&sum, u.from), add(&sum, u.count);
+            }
+    printf("read %zu claims %u %u %u %u sum %u\n", n, counts[1], counts[2], counts[3], counts[4], sum);
+}
+
+/* of all words of a length: how many runs they have, and their numbers summed up */
 static void two_letters(size_t n)
 {
     uint32_t count = 0, sum = 2166136261u;
@@ -119,8 +151,8 @@ static void two_letters(size_t n)
         for (size_t i = 0; i < n; i++) read[i] = word >> (n - 1 - i) & 1 ? 'C' : 'A';
         size_t found = one(sorunggyeo_runs(read, n, list, SORUNGGYEO_MOST)).value;
         count += found;
-        for (size_t k = 0; k < SORUNGGYEO_RUN * found; k++) sum = (sum ^ list[k]) * 16777619u;
-        sum *= 16777619u; /* and a 0 after each word */
+        for (size_t k = 0; k < SORUNGGYEO_RUN * found; k++) add(&sum, list[k]);
+        add(&sum, 0); /* after each word */
     }
     printf("length %zu runs %u sum %u\n", n, count, sum);
 }
@@ -240,12 +272,23 @@ static void replay_on(const char *x, const uint16_t *l, size_t count, uint32_t w
     end(sorunggyeo_replay((const uint8_t *)x, strlen(x), l, count, width, slice, room), room);
 }
 
-static void claim_on(const char *x, uint32_t i, uint32_t p, uint32_t e)
+/* an answer of two values */
+static void answered_both(sorunggyeo_answer a)
+{
+    printf("answer %u %llu %llu\n", a.number, (unsigned long long)a.value, (unsigned long long)a.more);
+}
+
+static void claim_in(const uint8_t *x, size_t n, uint32_t i, uint32_t p, uint32_t e)
 {
     printf("claim\n");
-    answered(sorunggyeo_claim((const uint8_t *)x, strlen(x), i, p, e));
-    sorunggyeo_part u = sorunggyeo_motif((const uint8_t *)x, strlen(x), i, p, e);
-    printf("%.*s\n", (int)u.count, x + u.from);
+    answered_both(sorunggyeo_claim(x, n, i, p, e));
+    sorunggyeo_part u = sorunggyeo_motif(x, n, i, p, e);
+    printf("%.*s\n", (int)u.count, (const char *)x + u.from);
+}
+
+static void claim_on(const char *x, uint32_t i, uint32_t p, uint32_t e)
+{
+    claim_in((const uint8_t *)x, strlen(x), i, p, e);
 }
 
 static uint64_t wide[4 * SORUNGGYEO_PERIODS];
@@ -255,9 +298,8 @@ static void list_index_on(const char *x, uint32_t mode, size_t room, size_t inde
     begin("list_index", room);
     for (size_t i = 0; i < index_room; i++) wide[i] = 7;
     printf("slice"), wide_numbers(wide, index_room);
-    sorunggyeo_answer a = sorunggyeo_list_index((const uint8_t *)x, strlen(x), mode, slice, room, wide, index_room);
-    printf("answer %u %llu %llu\nslice", a.number, (unsigned long long)a.value, (unsigned long long)a.more);
-    numbers(slice, room);
+    answered_both(sorunggyeo_list_index((const uint8_t *)x, strlen(x), mode, slice, room, wide, index_room));
+    printf("slice"), numbers(slice, room);
     printf("slice"), wide_numbers(wide, index_room);
 }
 
@@ -297,10 +339,7 @@ static void index_calls(void)
     lookup_on(most, 4, UINT64_MAX);
     memset(read, 'A', WIDE);
     const size_t given[4][4] = {{1000, 0, 2997, 2000}, {1000, 0, 2997, 4}, {1000, 1, 2, 4}, {1001, 2, 1, 1}};
-    for (int k = 0; k < 4; k++) {
-        sorunggyeo_answer a = sorunggyeo_list_index(read, given[k][0], given[k][1], slice, given[k][2], wide, given[k][3]);
-        printf("answer %u %llu %llu\n", a.number, (unsigned long long)a.value, (unsigned long long)a.more);
-    }
+    for (int k = 0; k < 4; k++) answered_both(sorunggyeo_list_index(read, given[k][0], given[k][1], slice, given[k][2], wide, given[k][3]));
 }
 
 static void unread_calls(void)
@@ -325,6 +364,29 @@ static void runs_calls(void)
     memset(read, 'A', WIDE);
     const char *long_read = (const char *)read;
     runs_on(long_read, 1000, 3), runs_on(long_read, 1000, 2), runs_on(long_read, 1001, 4), runs_on(long_read, 1001, 2);
+}
+
+static void claim_calls(void)
+{
+    const char *x = "ACAC", *y = "ACACACAC", *a = "AAAAAAAA", *u = "ACNACA";
+    claim_on(x, 1, 2, 2), claim_on(x, 1, 4, 1), claim_on(x, 1, 2, 1), claim_on(x, 1, 2, 3), claim_on(x, 3, 1, 2), claim_on(x, 4, 1, 1), claim_on(x, 4, 1, 2);
+    claim_on(x, 5, 1, 1), claim_on(x, 0, 2, 2), claim_on(x, 1, 0, 2), claim_on(x, 1, 2, 0), claim_on(x, 1, 4, 2);
+    claim_on(y, 1, 4, 2), claim_on(y, 1, 8, 1), claim_on(y, 2, 4, 1), claim_on(y, 2, 6, 1), claim_on(y, 3, 2, 3), claim_on(y, 3, 2, 2), claim_on(y, 3, 2, 1), claim_on(y, 5, 4, 2);
+    claim_on("ACACAC", 1, 4, 2), claim_on("ACACAC", 1, 4, 1), claim_on(a, 1, 8, 1), claim_on(a, 3, 6, 1), claim_on(a, 1, 4, 3), claim_on("AACAAC", 1, 6, 1), claim_on("AACAAC", 1, 2, 1);
+    claim_on(u, 1, 3, 1), claim_on(u, 1, 3, 2), claim_on(u, 2, 3, 1), claim_on(u, 3, 1, 1), claim_on(u, 1, 6, 1), claim_on(u, 1, 2, 1), claim_on(u, 4, 2, 1), claim_on(u, 1, 3, 3);
+    claim_on("NNNN", 1, 2, 1), claim_on("NNNN", 1, 4, 1), claim_on("NNNN", 1, 1, 4), claim_on("nnnn", 1, 4, 1), claim_on("nnnn", 1, 1, 4);
+    claim_on(x, UINT32_MAX, UINT32_MAX, UINT32_MAX), claim_on(x, 1, 65536, 65536), claim_on(x, 1, 2147483648u, 2), claim_on(x, 1, 1431655766, 3);
+    claim_on(x, UINT32_MAX, 1, 2), claim_on(x, 1, UINT32_MAX, 1), claim_on(x, 1, 1, UINT32_MAX), claim_on(x, 2, UINT32_MAX, UINT32_MAX);
+    claim_on("", 1, 1, 1), claim_on("", 0, 1, 1), claim_on("", 1, 0, 0);
+    memset(read, 'A', WIDE);
+    claim_in(read, 1000, 1, 1, 1000), claim_in(read, 1000, 1, 1, 999), claim_in(read, 1000, 1, 1000, 1), claim_in(read, 1000, 1, 500, 2);
+    claim_in(read, 1000, 501, 500, 1), claim_in(read, 1000, 501, 500, 2), claim_in(read, 1000, 1000, 1, 1), claim_in(read, 1000, 1000, 1, 2);
+    read[479] = read[959] = 'C';
+    claim_in(read, 960, 1, 480, 2), claim_in(read, 960, 1, 480, 1), claim_in(read, 960, 1, 960, 1), claim_in(read, 960, 2, 480, 1);
+    claim_in(read, 960, 481, 480, 1), claim_in(read, 960, 481, 480, 2);
+    memset(read, 'A', WIDE);
+    claim_in(read, 1001, 1, 1, 1001), claim_in(read, 1001, 0, 1, 2), claim_in(read, 1001, 1, 0, 2), claim_in(read, 1001, 1, 2, 0);
+    claim_in(read, 1001, UINT32_MAX, UINT32_MAX, UINT32_MAX);
 }
 
 /* a list of more lines than a u16 number can count: 70,000, of seven periods */
@@ -384,7 +446,6 @@ static void long_calls(void)
     answered(sorunggyeo_group_table(read, 1000, 1000, slice, 1000));
     answered(sorunggyeo_group_table(read, 1001, 0, slice, 1));
     answered(sorunggyeo_replay(read, 1001, &nine, 1, 0, slice, 1));
-    answered(sorunggyeo_claim(read, 1001, 1, 1, 1001));
 }
 
 static void byte_calls(void)
@@ -408,7 +469,7 @@ static void null_calls(void)
     expect(names[0] == 7 && names[3] == 7, "an empty list leaves the slice as it was");
     same(sorunggyeo_replay(aaaa, 4, NULL, 0, 2, names, 4), 0, 4);
     expect(names[0] == 1 && names[3] == 1, "nothing moves by an empty log");
-    same(sorunggyeo_claim(NULL, 0, 0, 0, 0), 0, 0), same(sorunggyeo_claim(NULL, 0, 1, 1, 2), 0, 0);
+    same(sorunggyeo_claim(NULL, 0, 0, 0, 0), 0, SORUNGGYEO_CLAIM_OUTSIDE), same(sorunggyeo_claim(NULL, 0, 1, 1, 2), 0, SORUNGGYEO_CLAIM_OUTSIDE);
     sorunggyeo_part u = sorunggyeo_motif(NULL, 0, 1, 1, 2);
     expect(u.from == 0 && u.count == 0, "an empty read has no motif");
     sorunggyeo_move m = sorunggyeo_next(NULL, 0, 5);
@@ -431,6 +492,8 @@ int main(int argc, char **argv)
         while (next_read(&n)) print_list(n, 1);
     } else if (!strcmp(what, "runs")) {
         while (next_read(&n)) print_runs(n);
+    } else if (!strcmp(what, "claims")) {
+        while (next_read(&n)) print_claims(n);
     } else if (!strcmp(what, "two_letters")) {
         for (n = 0; n <= 12; n++) two_letters(n);
     } else if (!strcmp(what, "logs")) {
@@ -442,7 +505,7 @@ int main(int argc, char **argv)
         if (!stored) return 1;
         print_tables(stored);
     } else if (!strcmp(what, "calls")) {
-        short_calls(), long_calls(), byte_calls(), index_calls(), unread_calls(), runs_calls(), null_calls(), long_list();
+        short_calls(), long_calls(), byte_calls(), index_calls(), unread_calls(), runs_calls(), claim_calls(), null_calls(), long_list();
     } else {
         return 1;
     }

@@ -4,7 +4,7 @@ import re
 from itertools import groupby
 from reads import Dice, DNA, every, few_unread, fibonacci, known, partial
 from rules import (LIMIT, LINES, answer_claim, answer_group_table, answer_index, answer_list, answer_list_index, answer_log,
-                   answer_replay, answer_runs, claim, entries, flat, groups_of, lines_of_groups, log, lookup, moves, printed, replay, repeats, runs, small, table, top)
+                   answer_replay, answer_runs, entries, flat, groups_of, lines_of_groups, log, lookup, motif, moves, printed, replay, repeats, runs, small, table, top)
 
 def text(reads):
     return b"".join(x + b"\n" for x in reads)
@@ -27,9 +27,9 @@ def sevens(name, call, n):
     return name + "\n" + words("slice", before) + words("answer", [number, value]) + words("slice", after)
 
 def claimed(x, i, p, e):
-    number, value, _ = answer_claim(x, i, p, e)
-    motif = x[i - 1:i - 1 + p] if number == 0 and claim(x, i, p, e) else b""
-    return "claim\n" + words("answer", [number, int(value)]) + motif.decode() + "\n"
+    number, values = answer_claim(x, i, p, e)
+    start, count = motif(x, i, p, e)
+    return "claim\n" + words("answer", [number, *values]) + x[start:start + count].decode() + "\n"
 
 def short_calls():
     x, top32 = b"ACAACACA", 2 ** 32 - 1
@@ -56,9 +56,9 @@ def long_calls():
     calls = [answer_list(x, 0, [7] * 30000), answer_list(x, 1, [7] * 3), answer_list(over, 2, [7]),
              answer_log(x, [7] * 29970), answer_log(x, [7] * 29969), answer_log(over, [7]),
              answer_group_table(x, 1000, [7] * 1000), answer_group_table(over, 0, [7]),
-             answer_replay(over, [9], 0, [7]), answer_claim(over, 1, 1, 1001)]
+             answer_replay(over, [9], 0, [7])]
     for number, value, _ in calls:
-        yield words("answer", [number, int(value)])
+        yield words("answer", [number, value])
 
 def byte_calls():
     x = bytes(range(256))
@@ -122,8 +122,33 @@ def runs_calls():
                     (b"A" * 1000, 3), (b"A" * 1000, 2), (b"A" * 1001, 4), (b"A" * 1001, 2)]:
         yield sevens("runs", lambda out: answer_runs(read, out), n)
 
+def claim_calls():
+    # document 02, item 4
+    acac, y, unread, top32 = b"ACAC", b"ACACACAC", b"ACNACA", 2 ** 32 - 1
+    for claim_of in [(1, 2, 2), (1, 4, 1), (1, 2, 1), (1, 2, 3), (3, 1, 2), (4, 1, 1), (4, 1, 2), (5, 1, 1), (0, 2, 2), (1, 0, 2), (1, 2, 0), (1, 4, 2)]:
+        yield claimed(acac, *claim_of)
+    for claim_of in [(1, 4, 2), (1, 8, 1), (2, 4, 1), (2, 6, 1), (3, 2, 3), (3, 2, 2), (3, 2, 1), (5, 4, 2)]:
+        yield claimed(y, *claim_of)
+    for claim_of in [(b"ACACAC", 1, 4, 2), (b"ACACAC", 1, 4, 1), (b"AAAAAAAA", 1, 8, 1), (b"AAAAAAAA", 3, 6, 1), (b"AAAAAAAA", 1, 4, 3), (b"AACAAC", 1, 6, 1), (b"AACAAC", 1, 2, 1)]:
+        yield claimed(*claim_of)
+    for claim_of in [(1, 3, 1), (1, 3, 2), (2, 3, 1), (3, 1, 1), (1, 6, 1), (1, 2, 1), (4, 2, 1), (1, 3, 3)]:
+        yield claimed(unread, *claim_of)
+    for claim_of in [(b"NNNN", 1, 2, 1), (b"NNNN", 1, 4, 1), (b"NNNN", 1, 1, 4), (b"nnnn", 1, 4, 1), (b"nnnn", 1, 1, 4)]:
+        yield claimed(*claim_of)
+    # products and sums that leave 32 bits
+    for claim_of in [(top32, top32, top32), (1, 65536, 65536), (1, 2 ** 31, 2), (1, 1431655766, 3), (top32, 1, 2), (1, top32, 1), (1, 1, top32), (2, top32, top32)]:
+        yield claimed(acac, *claim_of)
+    for claim_of in [(1, 1, 1), (0, 1, 1), (1, 0, 0)]:
+        yield claimed(b"", *claim_of)
+    for claim_of in [(1, 1, 1000), (1, 1, 999), (1, 1000, 1), (1, 500, 2), (501, 500, 1), (501, 500, 2), (1000, 1, 1), (1000, 1, 2)]:
+        yield claimed(b"A" * 1000, *claim_of)
+    for claim_of in [(1, 480, 2), (1, 480, 1), (1, 960, 1), (2, 480, 1), (481, 480, 1), (481, 480, 2)]:
+        yield claimed((b"A" * 479 + b"C") * 2, *claim_of)
+    for claim_of in [(1, 1, 1001), (0, 1, 2), (1, 0, 2), (1, 2, 0), (top32, top32, top32)]:
+        yield claimed(b"A" * 1001, *claim_of)
+
 def run_calls():
-    return "".join([*short_calls(), *long_calls(), *byte_calls(), *index_calls(), *unread_calls(), *runs_calls()]).encode()
+    return "".join([*short_calls(), *long_calls(), *byte_calls(), *index_calls(), *unread_calls(), *runs_calls(), *claim_calls()]).encode()
 
 def row(word, numbers):
     return "  %s %s\n" % (word, " ".join(map(str, numbers)))

@@ -1,4 +1,4 @@
-# The definitions of document 01 as pure functions over a bytes read x, positions from 1. N is an unread base (document 02, item 2).
+# The definitions of document 01 as pure functions over a bytes read x, positions from 1, with those of document 02. N is an unread base (its item 2).
 
 from collections import Counter
 from functools import lru_cache
@@ -35,15 +35,25 @@ def repeats(x, mode):
                 found.append((i, p, e))
     return found
 
-def claim(x, i, p, e):
+# document 02, item 4: the verdicts of a claim
+YES, COPIES, SHORTER, OUTSIDE = 1, 2, 3, 4
+
+def verdict(x, i, p, e):
     # this comes first so that no huge string is ever built
-    if i < 1 or p < 1 or e < 2 or i + p * e - 1 > len(x):
-        return False
+    if 0 in (i, p, e) or i + p * e - 1 > len(x): return OUTSIDE, 0
     rest = marks(x)[i - 1:]
     u = rest[:p]
-    stands = rest.startswith(u * e) and not rest.startswith(u * (e + 1))
-    # where k does not divide p the string written k times is too short to be u
-    return stands and not any(u[:p // k] * k == u for k in range(2, p + 1))
+    # behind its front a string stands first in its own square where its root has been passed
+    root = (u + u).find(u, 1)
+    if root < p: return SHORTER, root
+    count = max(k for k in range(1, len(rest) // p + 1) if rest.startswith(u * k))
+    return (YES, 0) if count == e >= 2 else (COPIES, count)
+
+def motif(x, i, p, e):
+    # the part of the read that is handed back: its place from 0, and how many bytes
+    found, number = verdict(x, i, p, e) if len(x) <= LIMIT else (OUTSIDE, 0)
+    count = p if found == YES else number if found == SHORTER else 0
+    return (i - 1, count) if count else (0, 0)
 
 def top(n):
     return max(1, n // 2)
@@ -209,8 +219,8 @@ def answer_replay(x, numbers, w, buffer):
     return 0, n, front(replay(x, numbers, w), buffer)
 
 def answer_claim(x, i, p, e):
-    if len(x) > LIMIT: return 1, len(x), None
-    return 0, claim(x, i, p, e), None  # this call is lent no buffer
+    if len(x) > LIMIT: return 1, (len(x), 0)
+    return 0, verdict(x, i, p, e)  # this call is lent no buffer
 
 def printed(x, mode):
     number, value, buffer = answer_list(x, mode, [0] * (3 * LINES))

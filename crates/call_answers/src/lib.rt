@@ -1,19 +1,20 @@
 // The answers of the public calls in the documents' numbers: the one place in code where a case becomes a number and its values.
-// What each case says stands in the definitions of words, specs/Answers.antt, and of words_index and words_runs, specs/Calls.antt; `plain` puts it side by side.
+// What each case says stands in the definitions of words, specs/Answers.antt, and of words_index, words_runs and words_claims, specs/Calls.antt; `plain` puts it side by side.
 ghost use mathlib.Core.Path.{_≡_};
-ghost use Rattle.words.specs.Answers.{listedSays, tabledSays, loggedSays, replayedSays, claimedSays};
+ghost use Rattle.words.specs.Answers.{listedSays, tabledSays, loggedSays, replayedSays};
 ghost use Rattle.words.specs.Answers.{success as saysSuccess, both as saysBoth, refusal as saysRefusal};
 ghost use Rattle.words_index.specs.Calls.{indexedSays, listIndexedSays};
 ghost use Rattle.words_index.specs.declared.Looked.{Looked};
 ghost use Rattle.words_runs.specs.Calls.{runsListedSays};
+ghost use Rattle.words_claims.specs.Calls.{claimedSays};
 ghost use Rattle.call_answers.specs.Plain.{plain, plainMove, plainLooked};
-use words::Claimed;
 use words::Entry;
 use words::Listed;
 use words::Logged;
 use words::Replayed;
 use words::Tabled;
 use words::Taken;
+use words_claims::Claimed;
 use words_index::Indexed;
 use words_index::ListIndexed;
 use words_index::Looked;
@@ -146,7 +147,9 @@ pub fn claimed(a: Claimed) -> Answer
 {
     match a {
         Claimed::Yes => success(1),
-        Claimed::No => success(0),
+        Claimed::Copies(count) => both(2, count),
+        Claimed::Shorter(root) => both(3, root),
+        Claimed::Outside => success(4),
         Claimed::TooLong(long) => refusal(1, long),
     }
 }

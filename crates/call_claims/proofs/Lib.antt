@@ -1,5 +1,2 @@
-pub mod Repeated
-pub mod Said
-pub mod Motifs
 pub mod Parts
 pub mod Settled

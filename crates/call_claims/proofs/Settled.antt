@@ -4,7 +4,7 @@ use denote.Ref.{ptr, now}
 use Rattle.call_claims.proofs.claim.Reads as claim
 use Rattle.call_claims.proofs.motif.Reads as motif
 use Rattle.call_claims.proofs.motif_part.Reads as motif-part
-use Rattle.call_claims.proofs.Said.{said-once}
+use Rattle.words_claims.proofs.Said.{said-once}
 
 pub claim-settled : (κs : _) (a : _) (x y : _) (e f : _) → claim.Learnt κs a x e → claim.Learnt κs a y f → x ≡ y
 claim-settled κs a x y e f p q = said-once x y (p ∙ sym q)

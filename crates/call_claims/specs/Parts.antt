@@ -1,10 +1,9 @@
 -- The motif of a claim as numbers side by side.
 use Prim.Native.Nat.{ℕ}
 use mathlib.Core.List.{List}
-use lib.ListN.{length}
-use Rattle.words.specs.Calls.{motif, motifFrom}
+use Rattle.words_claims.specs.Calls.{motifLength, motifFrom}
 use Rattle.call_claims.specs.declared.Part.{Part}
 
 -- where it starts in the read, counted from 0, and how many bytes it has
 unfoldable pub motifPart : List ℕ → ℕ → ℕ → ℕ → Part
-motifPart x i p e = record { from = motifFrom x i p e; count = length (motif x i p e) }
+motifPart x i p e = record { from = motifFrom x i p e; count = motifLength x i p e }

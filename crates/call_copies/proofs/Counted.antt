@@ -10,10 +10,8 @@ use borrow.Author.Tests.{not-true, not-false}
 use Rattle.words.specs.Repeats.{stands, copies}
 use Rattle.words.proofs.Tests.{clash, lt-or-ge}
 use Rattle.words.proofs.Ranges.{found, Found}
-use Rattle.words.proofs.Repeats.{stands-is, is-stands}
-use Rattle.words.proofs.Copies.{copies-end}
+use Rattle.words.proofs.Repeats.{is-stands}
 use Rattle.call_copies.proofs.Stretched.{past-stands}
-use Rattle.call_copies.proofs.Refuted.{test-refuted}
 
 module _ (x : List ℕ) (i p : ℕ) where
   sought : Found (λ e. not (stands x i p (suc e))) (length x) 0 (copies x i p)
@@ -42,10 +40,3 @@ module _ (x : List ℕ) (i p : ℕ) where
       counted-copies (length x) (omega arith)
       (λ k b. is-stands x i p (suc k) (rw z (omega arith), λ m l n ln. absurd (omega arith)))
       (λ m. absurd (omega arith))
-
-  -- so many copies stand, if there are any, and no more
-  pub counted-stands : (e : ℕ) → 1 ≤ e → copies x i p ≡ e → stands x i p e ≡ true
-  counted-stands (suc c) h q = not-false _ (sought .least c (omega arith) (omega arith))
-
-  pub counted-ends : (e : ℕ) → 1 ≤ i → 1 ≤ p → copies x i p ≡ e → stands x i p (suc e) ≡ false
-  counted-ends e a b q = sym (test-refuted (stands x i p (suc e)) (λ t. copies-end x i p a b (rw q (stands-is x i p (suc e) t))))

@@ -4,5 +4,5 @@ pub mod Compared
 pub mod Stretched
 pub mod Counted
 pub mod Agreed
-pub mod Shorter
+pub mod Roots
 pub mod Settled

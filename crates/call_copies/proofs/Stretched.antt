@@ -45,12 +45,8 @@ module _ (x : List ℕ) (i p : ℕ) where
   past-stands e l = test-refuted (stands x i p e) (λ t. omega (arith, stands-is x i p e t .0))
 
 -- a motif inside the read, and a shorter one that goes into it a whole number of times
-module _ (x : List ℕ) (i p d : ℕ) where
-  pub stretch-cuts : 1 ≤ d → d < p → p % d ≡ 0 → i + p ≤ suc (length x) → alike x (p - d) i (i + d) ≡ stands x i d (p / d)
-  stretch-cuts a b z f =
-      let whole : d * (p / d) + p % d ≡ p = div-add-mod p d in
-      let some : 1 ≤ p / d = le-div-iff-mul-le a .1 (omega arith) in
-      ap (λ (v : ℕ). alike x v i (i + d)) (omega (arith, copies-split d (p / d) some)) ∙ stretch-stands x i d (p / d) a some (omega arith)
-
-  pub past-cuts : p % d ≡ 0 → suc (length x) < i + p → false ≡ stands x i d (p / d)
-  past-cuts z l = let whole : d * (p / d) + p % d ≡ p = div-add-mod p d in past-stands x i d (p / d) (omega arith)
+pub stretch-writes : (x : List ℕ) (i p d : ℕ) → 1 ≤ d → d < p → p % d ≡ 0 → i + p ≤ suc (length x) → alike x (p - d) i (i + d) ≡ stands x i d (p / d)
+stretch-writes x i p d a b z f =
+    let whole : d * (p / d) + p % d ≡ p = div-add-mod p d in
+    let some : 1 ≤ p / d = le-div-iff-mul-le a .1 (omega arith) in
+    ap (λ (v : ℕ). alike x v i (i + d)) (omega (arith, copies-split d (p / d) some)) ∙ stretch-stands x i d (p / d) a some (omega arith)

@@ -1,13 +1,13 @@
-// The words of document 01 that a claim rests on, each decided for any read and any numbers: how often a motif stands in a row (`copies_at`), whether it is
-// primitive (`is_primitive`), whether a repeat leads (`is_leading`). Each promises the definition of its word. They are meant for a start and a period from 1
-// on; at 0, and past the read's end, they answer what the definition computes there, and so ask for nothing. Each compares no more bytes than the read
-// has, `is_primitive` for each shorter motif.
+// The words that a claim rests on, each decided for any read and any numbers: how often a motif stands in a row (`copies_at`), how long its primitive root is (`root_at`),
+// whether a repeat leads (`is_leading`). Each promises the definition of its word. They are meant for a start and a period from 1 on; at 0, and past the read's
+// end, they answer what the definition computes there, and so ask for nothing. Each compares no more bases than the read has, `root_at` less than four periods.
 ghost use mathlib.Core.Path.{_≡_};
 ghost use Prim.Native.Nat.{_+_, _≤_, _<_};
 ghost use lib.ListN.{length};
 ghost use Rattle.words.specs.Reads.{at, alike};
-ghost use Rattle.words.specs.Repeats.{primitive, leads, copies as copiesOf};
-ghost use Rattle.call_copies.specs.Copies.{farthest, agreed, cuts};
+ghost use Rattle.words.specs.Repeats.{leads, copies as copiesOf};
+ghost use Rattle.words_claims.specs.Claims.{root};
+ghost use Rattle.call_copies.specs.Copies.{farthest, agreed, agreedInside};
 use read_letters::same_base;
 
 // the byte at position i, and 0 past the read's end. Position 0, which is none, is taken for 1, as in the definition
@@ -87,34 +87,45 @@ pub fn copies_at(read: &[u8], start: u32, period: u32) -> usize
     e
 }
 
-// is the motif of p bytes from position i, which lies in the read, its first d bytes, written several times?
-fn cut(read: &[u8], i: usize, p: usize, d: usize) -> bool
+// how many bases of the motif of p bytes from position i, which lies in the read, are those d further in it, up to the first that is not; none where p
+// is no multiple of d
+fn agree_inside(read: &[u8], i: usize, p: usize, d: usize) -> usize
     requires { ⌜ (1 ≤ d) × (d < p) × (i + p ≤ length (now read) + 1) ⌝ }
-    ensures { λ r. ⌜ r ≡ cuts (now (read .entry)) i p d ⌝ }
+    ensures { λ r. ⌜ r ≡ agreedInside (now (read .entry)) i p d ⌝ }
 {
     if p % d != 0 {
-        return false;
+        return 0;
     }
-    agree(read, i, p - d, d) == p - d
+    agree(read, i, p - d, d)
 }
 
-// is the motif of a start and a period no shorter string written twice or more? One that does not lie in the read is none
-pub fn is_primitive(read: &[u8], start: u32, period: u32) -> bool
-    ensures { λ r. ⌜ r ≡ primitive (now (read .entry)) start period ⌝ }
+// the length of the primitive root of the motif of a start and a period; of one that does not lie in the read it is the whole. Lengths are tried upwards, and none beyond
+// the half divides p. Where m bases agree and the next does not, no length up to m writes the motif (`jump-writes`); so each try costs less than the next
+// length that is tried, and all together less than the divisors of p add up to: less than 4 p bases
+pub fn root_at(read: &[u8], start: u32, period: u32) -> usize
+    ensures { λ r. ⌜ r ≡ root (now (read .entry)) start period ⌝ }
 {
     let i = start as usize;
     let p = period as usize;
-    if read.len() + 1 < i + p {
-        return true;
+    if p < 2 {
+        return 1;
     }
+    if read.len() + 1 < i + p {
+        return p;
+    }
+    let half = p / 2;
     let mut d = 1;
-    while d < p {
-        if cut(read, i, p, d) {
-            return false;
+    while d <= half {
+        let m = agree_inside(read, i, p, d);
+        if m == p - d {
+            return d;
+        }
+        if d < m {
+            d = m;
         }
         d += 1;
     }
-    true
+    p
 }
 
 // does a repeat of this start and period lead: is the start at most the period, or does the motif not stand a period before it?

@@ -17,11 +17,15 @@ use Rattle.words.specs.Moves.{topOf, moveSize, log, M}
 use Rattle.words.specs.Replay.{replay}
 use Rattle.words.specs.Logs.{within, firstBad, wellFormed}
 use Rattle.words.specs.Answers.{Answer, success, both, refusal}
-use Rattle.words.specs.Calls.{refuse, tooLong, afterwards, listAfterwards, listAnswer, listLeaves, tableAnswer, tableLeaves, logAnswer, logLeaves, replayAnswer, replayLeaves, claimAnswer}
+use Rattle.words.specs.Calls.{refuse, tooLong, afterwards, listAfterwards, listAnswer, listLeaves, tableAnswer, tableLeaves, logAnswer, logLeaves, replayAnswer, replayLeaves}
 use Rattle.words_index.specs.Index.{inOrder, entrySize, entryCount}
 use Rattle.words_index.specs.Calls.{indexAnswer, indexLeaves, listIndexAnswer, listIndexLeaves, listIndexBeside}
 use Rattle.words_runs.specs.Runs.{runSize, runs, runCount}
 use Rattle.words_runs.specs.Calls.{runsAnswer, runsLeaves}
+use Rattle.words_claims.specs.Calls.{verdict, claimedSays, claimAnswer}
+use Rattle.words_claims.specs.declared.Claimed.{Claimed}
+use Rattle.words_claims.proofs.Verdicts.{tells-long}
+use Rattle.words_claims.proofs.Truth.{Says, told-if-so}
 use Rattle.words.proofs.Tests.{either, or-left, or-right, lt-or-ge}
 use Rattle.words.proofs.Afterwards.{success-front, success-list, list-full, refused-same, refused-list}
 use Rattle.lister.proofs.Refusals.{Row, rowAt, Follows, By, listRows, runsRows, tableRows, logRows, ReplayWidth, replayRows, claimRows, indexRows, bothRows, listIndexRows, besideRows}
@@ -175,13 +179,22 @@ module _ (x l : List ℕ) (w : ℕ) (out : List ℕ) where
       gives (suc (suc (suc (suc (suc (suc k)))))) h = absurd h
 
 module _ (x : List ℕ) (i p e : ℕ) where
+  -- every answer but that of a read too long is a success
+  told-success : length x ≤ most → (v : Claimed) → Says x i p e v → claimedSays v ≡ record { number = 0; values = claimedSays v .values }
+  unfolding claimedSays success both
+  told-success h Claimed.Yes s = refl
+  told-success h (Claimed.Copies c) s = refl
+  told-success h (Claimed.Shorter d) s = refl
+  told-success h Claimed.Outside s = refl
+  told-success h (Claimed.TooLong n) s = absurd (omega (arith, s .0))
+
   pub claim-by : By (claimRows x i p e) (claimAnswer x i p e) []
-  unfolding claimAnswer refuse success refusal
+  unfolding claimAnswer claimedSays refusal
   claim-by = goes-by (claimRows x i p e) _ _ (⊎-elim (λ h. (1, h)) (λ h. (0, h)) (lt-or-ge most (length x))) gives
     where
       gives : Follows (claimRows x i p e) (claimAnswer x i p e) []
-      gives zero h = (rw (long-no x h), refl)
-      gives (suc zero) h = (rw (long-yes x h), refl)
+      gives zero h = (told-success h (verdict x i p e) (told-if-so x i p e (verdict x i p e) .0 refl), refl)
+      gives (suc zero) h = (ap claimedSays (tells-long x i p e h), refl)
       gives (suc (suc k)) h = absurd h
 
 module _ (l s : List ℕ) where

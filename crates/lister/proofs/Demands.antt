@@ -15,9 +15,10 @@ use Rattle.words.specs.Repeats.{repeats, leads}
 use Rattle.words.specs.Lists.{lineOf, lineSize, lines, lineCount, inMode}
 use Rattle.words.specs.Moves.{topOf, top, moveOf, moveSize, log, M}
 use Rattle.words.specs.Logs.{before}
-use Rattle.words.specs.Answers.{success, refusal, listedSays, tabledSays, loggedSays, replayedSays, claimedSays}
+use Rattle.words.specs.Answers.{success, refusal, listedSays, tabledSays, loggedSays, replayedSays}
 use Rattle.words_index.specs.Calls.{indexedSays, listIndexedSays}
 use Rattle.words_runs.specs.Calls.{runsListedSays}
+use Rattle.words_claims.specs.Calls.{claimedSays}
 use Rattle.words.specs.Calls.{tableAnswer, tableLeaves, replayAnswer, replayLeaves}
 use Rattle.words.proofs.Tests.{lt-or-ge}
 use Rattle.words.proofs.Rows.{Has, rows-times}

@@ -1,7 +1,7 @@
 -- The part of the read that the motif call hands back, the entry that the log reader gives and the one that is looked up, and exactly when. Assumes nothing.
 use Prim.Native.Nat.{ℕ, _+_, _-_, _≤_, _<_}
-use mathlib.Core.Path.{_≡_, refl, sym, ap, _∙_}
-use mathlib.Core.Logic.{_⊎_, inl, inr, _↔_, _≢_, ⊎-elim}
+use mathlib.Core.Path.{_≡_, refl, ap, _∙_}
+use mathlib.Core.Logic.{_⊎_, inl, inr, _↔_, _≢_}
 use mathlib.Core.Bool.{Bool, true, false}
 use mathlib.Core.List.{List, []}
 use native.Mathlib.Omega.{arith}
@@ -12,67 +12,61 @@ use borrow.Author.Tests.{lt-ltb, le-ltb, eq-eqb, ne-eqb}
 use denote.Ref.{RefT, ptr, now}
 use Rattle.words.specs.Range.{first}
 use Rattle.words.specs.Rows.{rows, cell}
-use Rattle.words.specs.Reads.{most}
-use Rattle.words.specs.Repeats.{repeats}
 use Rattle.words.specs.Moves.{moveSize, widthOf, nameOf, placeOf}
-use Rattle.words.specs.Calls.{tooLong, shown, motif, motifFrom, readerTakes}
+use Rattle.words.specs.Calls.{readerTakes}
 use Rattle.words.specs.declared.Entry.{Entry}
-use Rattle.words.proofs.Tests.{either, clash, lt-or-ge}
+use Rattle.words.proofs.Tests.{clash, lt-or-ge}
 use Rattle.words.proofs.Searches.{first-hit, first-ended}
 use Rattle.words_index.specs.Index.{entrySize, firstEntry}
 use Rattle.words_index.specs.Calls.{lookupGives}
 use Rattle.words_index.specs.declared.Looked.{Looked}
-use Rattle.words.proofs.Repeats.{Repeat, repeat-is}
-use Rattle.call_claims.proofs.Motifs.{shown-inside}
+use Rattle.words.proofs.Repeats.{repeat-is}
+use Rattle.words_claims.specs.Calls.{shownOf, motifLength, motifFrom, motif}
+use Rattle.words_claims.specs.declared.Claimed.{Claimed}
+use Rattle.words_claims.proofs.Truth.{Says, truth-told}
+use Rattle.words_claims.proofs.Motifs.{length-of, shown-fits, shown-from, shown-bytes, hidden-from, hidden-bytes}
 
 -- ---- the motif
 
-module _ (x : List ℕ) (i p e : ℕ) where
-  -- no motif is shown: the read is too long, or the claim is not true
-  abbrev pub Hidden : Type 0
-  Hidden = (most < length x) ⊎ (repeats x i p e ≡ false)
+-- r is the part of the slice s that has so many bytes from a place on, counted from 0
+abbrev pub PartOf : RefT (List ℕ) → ℕ → ℕ → RefT (List ℕ) → Type 0
+PartOf s from count r = (ptr r .0 ≡ ptr s .0) × (ptr r .1 ≡ ptr s .1 + from) × (now r ≡ take count (drop from (now s))) × (length (now r) ≡ count)
 
-  shown-yes : length x ≤ most → repeats x i p e ≡ true → shown x i p e ≡ true
-  unfolding shown tooLong
-  shown-yes h t = rw (le-ltb most (length x) h, t)
+-- what is handed back as r of the read s where an answer to the claim is true: the motif for yes, the root where one is named, both at the claimed start; else the empty
+-- part at the read's front
+abbrev pub Hands : RefT (List ℕ) → ℕ → ℕ → Claimed → RefT (List ℕ) → Type 0
+Hands s i p Claimed.Yes r = PartOf s (i - 1) p r
+Hands s i p (Claimed.Copies c) r = PartOf s 0 0 r
+Hands s i p (Claimed.Shorter d) r = PartOf s (i - 1) d r
+Hands s i p Claimed.Outside r = PartOf s 0 0 r
+Hands s i p (Claimed.TooLong n) r = PartOf s 0 0 r
 
-  shown-no : Hidden → shown x i p e ≡ false
-  unfolding shown tooLong
-  shown-no (inl h) = rw (lt-ltb most (length x) h)
-  shown-no (inr t) = ⊎-elim (λ h. rw (lt-ltb most (length x) h)) (λ h. rw (le-ltb most (length x) h, t)) (lt-or-ge most (length x))
-
-  hidden-or : Hidden ⊎ ((length x ≤ most) × (repeats x i p e ≡ true))
-  hidden-or = ⊎-elim (λ h. inl (inl h)) (λ h. ⊎-elim (λ t. inr (h, t)) (λ t. inl (inr t)) (either (repeats x i p e))) (lt-or-ge most (length x))
-
--- what the motif call hands back as r of the read s
-pub record MotifOf (s : RefT (List ℕ)) (i p e : ℕ) (r : RefT (List ℕ)) : Type 0 where
-  pub block : ptr r .0 ≡ ptr s .0
-  pub shows : length (now s) ≤ most → repeats (now s) i p e ≡ true → (now r ≡ take p (drop (i - 1) (now s))) × (ptr r .1 ≡ ptr s .1 + (i - 1))
-  pub hides : Hidden (now s) i p e → (now r ≡ []) × (ptr r .1 ≡ ptr s .1)
-  pub exactly : (now r ≡ []) ↔ Hidden (now s) i p e
+abbrev pub MotifOf : RefT (List ℕ) → ℕ → ℕ → ℕ → RefT (List ℕ) → Type 0
+MotifOf s i p e r = (v : Claimed) → Says (now s) i p e v → Hands s i p v r
 
 pub motif-of : (s : RefT (List ℕ)) (i p e : ℕ) (r : RefT (List ℕ)) → now r ≡ motif (now s) i p e → ptr r .0 ≡ ptr s .0 → ptr r .1 ≡ ptr s .1 + motifFrom (now s) i p e → MotifOf s i p e r
-unfolding motif motifFrom
-motif-of s i p e r bytes block from =
-    record { block = block; shows = shows; hides = hides; exactly = (λ z. only z (hidden-or x i p e), λ h. hides h .0) }
+unfolding shownOf
+motif-of s i p e r bytes block from v q = by v q (length-of x i p e v (truth-told x i p e v q))
   where
     x : List ℕ
     x = now s
 
-    shows : length x ≤ most → repeats x i p e ≡ true → (now r ≡ take p (drop (i - 1) x)) × (ptr r .1 ≡ ptr s .1 + (i - 1))
-    shows h t = let y = shown-yes x i p e h t in (bytes ∙ rw y, from ∙ rw y)
+    shows : (c : ℕ) → motifLength x i p e ≡ c → 1 ≤ c → PartOf s (i - 1) c r
+    shows c w l =
+        let some : 1 ≤ motifLength x i p e = omega arith in
+        let fits = shown-fits x i p e some in
+        let made : now r ≡ take c (drop (i - 1) x) = rw w at (bytes ∙ shown-bytes x i p e some) in
+        (block, rw (shown-from x i p e some) at from, made, ap length made ∙ length-take-le c (drop (i - 1) x) (omega (arith, length-drop (i - 1) x, fits, w)))
 
-    hides : Hidden x i p e → (now r ≡ []) × (ptr r .1 ≡ ptr s .1)
-    hides h = let y = shown-no x i p e h in (bytes ∙ rw y, from ∙ rw y (omega arith))
+    hides : motifLength x i p e ≡ 0 → PartOf s 0 0 r
+    hides w = let made : now r ≡ [] = bytes ∙ hidden-bytes x i p e w in (block, rw (hidden-from x i p e w) at from, made, ap length made)
 
-    -- a motif has bytes
-    only : now r ≡ [] → Hidden x i p e ⊎ ((length x ≤ most) × (repeats x i p e ≡ true)) → Hidden x i p e
-    only z (inl h) = h
-    only z (inr h) =
-        let R : Repeat x i p e = repeat-is x i p e (h .1) in
-        let within = shown-inside x i p e (shown-yes x i p e (h .0) (h .1)) in
-        let fits : p ≤ length (drop (i - 1) x) = rw (length-drop (i - 1) x) (omega (arith, within .0, within .1)) in
-        absurd (omega (arith, R .period, length-take-le p (drop (i - 1) x) fits, ap length (sym (shows (h .0) (h .1) .0) ∙ z)))
+    by : (v : Claimed) → Says x i p e v → motifLength x i p e ≡ shownOf p v → Hands s i p v r
+    by Claimed.Yes q w = shows p w (repeat-is x i p e (q .1) .period)
+    by (Claimed.Copies c) q w = hides w
+    by (Claimed.Shorter d) q w = shows d w (q .2)
+    by Claimed.Outside q w = hides w
+    by (Claimed.TooLong n) q w = hides w
 
 -- ---- the log reader
 

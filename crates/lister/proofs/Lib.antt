@@ -3,6 +3,7 @@ pub mod Answered
 pub mod Handed
 pub mod Steps
 pub mod Demands
+pub mod Claims
 pub mod Indexes
 pub mod Unread
 pub mod Repetitions

@@ -6,10 +6,8 @@ use mathlib.Core.Logic.{_⊎_, _↔_}
 use mathlib.Core.Bool.{true, false}
 use mathlib.Core.List.{List, [], _∷_}
 use lib.ListN.{length, replicate}
-use Rattle.words.specs.Range.{bit}
 use Rattle.words.specs.Rows.{rows}
 use Rattle.words.specs.Reads.{most}
-use Rattle.words.specs.Repeats.{repeats}
 use Rattle.words.specs.Lists.{lineSize, lines, lineCount, inMode}
 use Rattle.words.specs.Groups.{table}
 use Rattle.words.specs.Moves.{topOf, moveSize, log, M}
@@ -19,6 +17,7 @@ use Rattle.words.specs.Answers.{Answer}
 use Rattle.words.proofs.Afterwards.{front}
 use Rattle.words_index.specs.Index.{firstLoose, inOrder, entrySize, index, entryCount}
 use Rattle.words_runs.specs.Runs.{runSize, runs, runCount}
+use Rattle.words_claims.specs.Calls.{verdict, claimedSays}
 
 -- one row: when its number is given, what is returned with it, and the lent slice afterwards
 pub record Row : Type 1 where
@@ -104,9 +103,9 @@ replayRows x l w out =
     ∷ rowOf ((n ≤ most) × ReplayWidth n w × (n ≤ length out) × (wellFormed n l ≡ false)) (firstBad n l) out
     ∷ []
 
--- the claim check, which has no slice
+-- the claim check, which has no slice; what it returns is the number of its verdict and what is told with it, and when each is given stands in Claims.antt
 abbrev pub claimRows : List ℕ → ℕ → ℕ → ℕ → List Row
-claimRows x i p e = rowOf (length x ≤ most) (bit (repeats x i p e)) [] ∷ rowOf (most < length x) (length x) [] ∷ []
+claimRows x i p e = record { when = length x ≤ most; returns = claimedSays (verdict x i p e) .values; leaves = [] } ∷ rowOf (most < length x) (length x) [] ∷ []
 
 -- the index of a list l alone
 abbrev pub indexRows : List ℕ → List ℕ → List Row

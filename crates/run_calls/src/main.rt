@@ -1,10 +1,10 @@
 // Runs every call but the reader's `new` on the reads with known results that document 01 has run, at the edges of each refusal and on refusals
 // in combination, and prints each answer in the documents' numbers with the slices before and after. `next` is run by `call_reader::call_once`. What a
 // request of document 02 adds is run by a library of its own.
+use run_claims::claim_on;
 use run_prints::answer;
 use run_prints::number;
 use run_prints::word;
-use run_sevens::claim_on;
 use run_sevens::list_in;
 use run_sevens::log_in;
 use run_sevens::replay_in;
@@ -226,7 +226,6 @@ fn long_tables(within: &[u8], over: &[u8]) {
     let mut out = [7u16; 1];
     let log = [9u16; 1];
     answer(call_answers::replayed(lister::replay(over, &log[..], 0, &mut out[..])));
-    answer(call_answers::claimed(lister::claim(over, 1, 1, 1001)));
 }
 
 // 1,000 bytes pass, 1,001 give refusal 1 before any other
@@ -269,4 +268,5 @@ fn main() {
     run_indexes::run();
     run_unread::run();
     run_runs::run();
+    run_claims::run();
 }

@@ -1,5 +1,5 @@
 // One call of each kind of document 01, on a slice of so many sevens: the slice before, the answer in the documents' numbers, the slice after. A number
-// written past the front, or a slice zeroed by mistake, is seen. A claim is printed with its motif.
+// written past the front, or a slice zeroed by mistake, is seen.
 ghost use Prim.Native.Nat.{_≤_};
 use run_prints::answer;
 use run_prints::slice;
@@ -60,11 +60,4 @@ pub fn replay_in(read: &[u8], log: &[u16], width: u32, room: usize)
 {
     let mut out = [7u16; 9];
     replay_on(read, log, width, &mut out[..room]);
-}
-
-pub fn claim_on(read: &[u8], start: u32, period: u32, copies: u32) {
-    word(b"claim\n");
-    answer(call_answers::claimed(lister::claim(read, start, period, copies)));
-    word(lister::motif(read, start, period, copies));
-    word(b"\n");
 }

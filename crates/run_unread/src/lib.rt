@@ -1,6 +1,6 @@
 // Runs the calls on reads with unread bases (document 02, item 2), and on the same reads with a small n: rooms at their edge, logs that are not the read's
 // own, claims and motifs over an N. What the stored reads have at every width stands there.
-use run_sevens::claim_on;
+use run_claims::claim_on;
 use run_sevens::list_in;
 use run_sevens::log_in;
 use run_sevens::replay_in;

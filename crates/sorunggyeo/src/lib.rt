@@ -4,9 +4,10 @@
 // None has a `requires`.
 ghost use mathlib.Core.Path.{_≡_};
 ghost use Rattle.words.specs.Calls.{listAnswer, listLeaves, tableAnswer, tableLeaves, logAnswer, logLeaves};
-ghost use Rattle.words.specs.Calls.{replayAnswer, replayLeaves, claimAnswer, readerTakes};
+ghost use Rattle.words.specs.Calls.{replayAnswer, replayLeaves, readerTakes};
 ghost use Rattle.words_index.specs.Calls.{indexAnswer, indexLeaves, listIndexAnswer, listIndexLeaves, listIndexBeside, lookupGives};
 ghost use Rattle.words_runs.specs.Calls.{runsAnswer, runsLeaves};
+ghost use Rattle.words_claims.specs.Calls.{claimAnswer};
 ghost use Rattle.call_answers.specs.Plain.{plain, plainMove, plainLooked};
 ghost use Rattle.call_claims.specs.Parts.{motifPart};
 use call_answers::Answer;
@@ -60,6 +61,7 @@ pub extern "C" fn sorunggyeo_replay(
     call_answers::replayed(call_replays::replay(read, log, width, table))
 }
 
+// The verdict and the number told with it.
 #[no_mangle]
 pub extern "C" fn sorunggyeo_claim(read: &[u8], start: u32, period: u32, copies: u32) -> Answer
     ensures { λ r. ⌜ r ≡ plain (claimAnswer (now (read .entry)) start period copies) ⌝ }

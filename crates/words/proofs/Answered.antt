@@ -8,14 +8,14 @@ use Rattle.words.specs.Range.{first, every, sum, count, gather, cells, c
 use Rattle.words.specs.Rows.{rows, cell}
 use Rattle.words.specs.ByPeriod.{rowIf, rowsAt, byPeriod}
 use Rattle.words.specs.Reads.{at, letterOf, letter, fits, stretch, same, alike}
-use Rattle.words.specs.Repeats.{stands, primitive, repeats, leads, copies}
+use Rattle.words.specs.Repeats.{stands, writes, primitive, repeats, leads, copies}
 use Rattle.words.specs.Lists.{lineOf, lineSize, lineAt, listed, linesAt, lines, lineCount, inMode}
 use Rattle.words.specs.Groups.{share, name, table, size, beats, big, allSmall, partsSmall, smalls}
 use Rattle.words.specs.Moves.{topOf, top, moveOf, moveSize, widthCell, widthOf, nameOf, placeOf, moveAt, movesOf, movesIn, moves, log, log2, M}
 use Rattle.words.specs.Replay.{moving, under, stays, after, replayed, replay}
 use Rattle.words.specs.Logs.{within, before, moved, good, firstBad, wellFormed}
 use Rattle.words.specs.Answers.{success, refusal, entrySays}
-use Rattle.words.specs.Calls.{refuse, tooLong, afterwards, listAfterwards, listAnswer, listLeaves, tableAnswer, tableLeaves, logAnswer, logLeaves, replayAnswer, replayLeaves, claimAnswer, shown, motifFrom, motif, readerTakes}
+use Rattle.words.specs.Calls.{refuse, tooLong, afterwards, listAfterwards, listAnswer, listLeaves, tableAnswer, tableLeaves, logAnswer, logLeaves, replayAnswer, replayLeaves, readerTakes}
 use Rattle.words.specs.declared.Entry.{Entry}
 use Rattle.words.proofs.Known.{A, C, ACAACACA}
 
@@ -46,13 +46,11 @@ pub record Answered : Type 0 where
   pub replay-cut : (replayAnswer ACAACACA (1 ∷ 1 ∷ 2 ∷ 1 ∷ []) 1 (lent 8) ≡ refusal 5 1) × (replayAnswer ACAACACA (3 ∷ 9 ∷ 2 ∷ []) 1 (lent 8) ≡ refusal 5 0)
   pub replay-moved : replayAnswer ACAACACA (1 ∷ 1 ∷ 2 ∷ 1 ∷ 3 ∷ 2 ∷ []) 1 (lent 8) ≡ refusal 5 1
   pub replay-order : (replayAnswer ACAACACA (2 ∷ 3 ∷ 2 ∷ 1 ∷ 8 ∷ 7 ∷ []) 1 (lent 8) ≡ refusal 5 1) × (replayAnswer ACAACACA (1 ∷ 2 ∷ 4 ∷ 1 ∷ 1 ∷ 5 ∷ []) 1 (lent 8) ≡ refusal 5 1) × (replayAnswer ACAACACA (1 ∷ 1 ∷ 5 ∷ 1 ∷ 1 ∷ 2 ∷ []) 1 (lent 8) ≡ refusal 5 1)
-  pub claims : (claimAnswer ACAACACA 5 2 2 ≡ success 1) × (claimAnswer ACAACACA 6 2 2 ≡ success 0) × (claimAnswer long 1 1 1001 ≡ refusal 1 1001)
-  pub motifs : (motif ACAACACA 5 2 2 ≡ C ∷ A ∷ []) × (motifFrom ACAACACA 5 2 2 ≡ 4) × (motif ACAACACA 6 2 2 ≡ []) × (motifFrom long 2 1 1000 ≡ 0)
   pub reader : (readerTakes twice 1 ≡ record { entry = Entry.Move 1 1 2; at = 2 }) × (readerTakes (1 ∷ 2 ∷ []) 0 ≡ record { entry = Entry.Ended; at = 0 }) × (readerTakes twice 9 ≡ record { entry = Entry.Ended; at = 9 })
   pub reader-says : (entrySays (readerTakes (2 ∷ 8 ∷ 7 ∷ []) 0 .entry) ≡ record { number = 0; values = 2 ∷ 8 ∷ 7 ∷ [] }) × (entrySays (readerTakes twice 3 .entry) ≡ record { number = 0; values = [] })
 
 pub answered : Answered
-unfolding first every sum count gather cells column leader rows cell at letterOf letter fits stretch same alike stands primitive repeats leads copies rowIf rowsAt byPeriod lineOf lineSize lineAt listed linesAt lines inMode lineCount share name table size beats big allSmall partsSmall smalls topOf top moveOf moveSize widthCell widthOf nameOf placeOf moveAt movesOf movesIn moves log log2 M moving under stays after replayed replay within before moved good firstBad wellFormed success refusal refuse tooLong afterwards listAfterwards listAnswer listLeaves tableAnswer tableLeaves logAnswer logLeaves replayAnswer replayLeaves claimAnswer shown motifFrom motif readerTakes entrySays
+unfolding first every sum count gather cells column leader rows cell at letterOf letter fits stretch same alike stands writes primitive repeats leads copies rowIf rowsAt byPeriod lineOf lineSize lineAt listed linesAt lines inMode lineCount share name table size beats big allSmall partsSmall smalls topOf top moveOf moveSize widthCell widthOf nameOf placeOf moveAt movesOf movesIn moves log log2 M moving under stays after replayed replay within before moved good firstBad wellFormed success refusal refuse tooLong afterwards listAfterwards listAnswer listLeaves tableAnswer tableLeaves logAnswer logLeaves replayAnswer replayLeaves readerTakes entrySays
 answered =
     record {
       list-passes = (refl, refl);
@@ -69,8 +67,6 @@ answered =
       replay-cut = (refl, refl);
       replay-moved = refl;
       replay-order = (refl, refl, refl);
-      claims = (refl, refl, refl);
-      motifs = (refl, refl, refl, refl);
       reader = (refl, refl, refl);
       reader-says = (refl, refl);
     }

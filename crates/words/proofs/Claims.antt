@@ -11,11 +11,11 @@ use lib.ListN.{length, getD, length-append, List·getD-append}
 use lib.Seq.{getD-append-add, ext-getD}
 use Rattle.words.specs.Range.{first, every, gather, cells}
 use Rattle.words.specs.Reads.{at, letterOf, letter, stretch, same, alike}
-use Rattle.words.specs.Repeats.{stands, primitive, repeats, copies, written}
+use Rattle.words.specs.Repeats.{stands, writes, primitive, repeats, copies, written}
 use Rattle.words.proofs.Tests.{either}
 use Rattle.words.proofs.Ranges.{length-cells}
 use Rattle.words.proofs.Stretches.{stretch-at}
-use Rattle.words.proofs.Repeats.{Stands, stands-is, is-stands, Primitive, primitive-is, is-primitive, Repeat, repeat-is, is-repeat}
+use Rattle.words.proofs.Repeats.{Stands, stands-is, is-stands, Writes, Primitive, primitive-is, is-primitive, Repeat, repeat-is, is-repeat}
 
 -- a string written k times: its length, and the byte at a place of one of its copies
 pub written-length : (k : ℕ) (u : List ℕ) → length (written k u) ≡ length u * k
@@ -31,8 +31,12 @@ written-at (suc k) u zero r h l =
 written-at (suc k) u (suc m) r h l =
     ap (λ (v : ℕ). getD (u ++ written k u) v 0) (omega arith) ∙ getD-append-add u (written k u) (length u * m + r) 0 ∙ written-at k u m r (omega arith) l
 
+-- a string is primitive: it is no shorter string written twice or more
+abbrev pub Unwritten : List ℕ → Type 0
+Unwritten u = (v : List ℕ) (k : ℕ) → 2 ≤ k → u ≡ written k v → ⊥
+
 module _ (x : List ℕ) where
-  stretch-length : (w i : ℕ) → length (stretch x w i) ≡ w
+  pub stretch-length : (w i : ℕ) → length (stretch x w i) ≡ w
   unfolding stretch
   stretch-length w i = length-cells (letter x) w i
 
@@ -81,29 +85,32 @@ module _ (x : List ℕ) where
     λ r. is-stands x i p e (written-stands i p e (stretch x p i) (r .0) (stretch-length p i) (r .1)),
   )
 
-  -- a motif is primitive: it is no shorter string written twice or more
-  pub primitive-means : (i p : ℕ) → 1 ≤ p → i + p ≤ suc (length x) → (primitive x i p ≡ true) ↔ ((u : List ℕ) (k : ℕ) → 2 ≤ k → stretch x p i ≡ written k u → ⊥)
-  primitive-means i p h f = (λ t u k two e. short u k two e (primitive-is x i p t), λ g. is-primitive x i p (λ d a b c s. long d a b c s g))
+  -- a string that written k times is a stretch of p bytes writes it by its length
+  pub written-writes : (i p : ℕ) (u : List ℕ) (k : ℕ) → 1 ≤ p → i + p ≤ suc (length x) → stretch x p i ≡ written k u → (1 ≤ length u) × (p ≡ length u * k) × Writes x i p (length u)
+  written-writes i p u k h f e =
+      let d : ℕ = length u in
+      let total : p ≡ d * k = sym (stretch-length p i) ∙ ap length e ∙ written-length k u in
+      let one : 1 ≤ d = some d k (omega arith) in
+      let turns : p / d ≡ k = ap (λ (v : ℕ). v / d) total ∙ mul-div-right k one in (
+        one,
+        total,
+        (ap (λ (v : ℕ). v % d) total ∙ mul-mod-right d k, subst (λ (v : ℕ). Stands x i d v) (sym turns) (written-stands i d k u (omega (arith, total)) refl (ap (λ (v : ℕ). stretch x v i) (sym total) ∙ e))),
+      )
     where
-      -- p is the length of u times k
-      total : (u : List ℕ) (k : ℕ) → stretch x p i ≡ written k u → p ≡ length u * k
-      total u k e = sym (stretch-length p i) ∙ ap length e ∙ written-length k u
-
       some : (d k : ℕ) → 1 ≤ d * k → 1 ≤ d
       some zero k l = absurd (omega (arith, zero-mul k))
       some (suc d) k l = omega arith
 
+  -- a motif is primitive: it is no shorter string written twice or more
+  pub primitive-means : (i p : ℕ) → 1 ≤ p → i + p ≤ suc (length x) → (primitive x i p ≡ true) ↔ Unwritten (stretch x p i)
+  primitive-means i p h f = (λ t u k two e. short u k two e (primitive-is x i p t), λ g. is-primitive x i p (λ d a b c s. long d a b c s g))
+    where
       short : (u : List ℕ) (k : ℕ) → 2 ≤ k → stretch x p i ≡ written k u → Primitive x i p → ⊥
       short u k two e prim =
-          let d : ℕ = length u in
-          let n : p ≡ d * k = total u k e in
-          let one : 1 ≤ d = some d k (omega arith) in
-          let less : d < p = omega (arith, mul-le-mul-left d two, n, one) in
-          let whole : p % d ≡ 0 = ap (λ (v : ℕ). v % d) n ∙ mul-mod-right d k in
-          let times : p / d ≡ k = ap (λ (v : ℕ). v / d) n ∙ mul-div-right k one in
-          prim d one less whole (subst (λ (v : ℕ). Stands x i d v) (sym times) (written-stands i d k u (omega (arith, n)) refl (ap (λ (v : ℕ). stretch x v i) (sym n) ∙ e)))
+          let w = written-writes i p u k h f e in
+          prim (length u) (w .0) (omega (arith, mul-le-mul-left (length u) two, w .0, w .1)) (w .2 .0) (w .2 .1)
 
-      long : (d : ℕ) → 1 ≤ d → d < p → p % d ≡ 0 → Stands x i d (p / d) → ((u : List ℕ) (k : ℕ) → 2 ≤ k → stretch x p i ≡ written k u → ⊥) → ⊥
+      long : (d : ℕ) → 1 ≤ d → d < p → p % d ≡ 0 → Stands x i d (p / d) → Unwritten (stretch x p i) → ⊥
       long d a b c s g =
           let n : d * (p / d) ≡ p = omega (arith, div-add-mod p d, c) in
           g (stretch x d i) (p / d) (twice (p / d) n) (ap (λ (v : ℕ). stretch x v i) (sym n) ∙ stands-written i d (p / d) a s)
@@ -121,7 +128,7 @@ module _ (x : List ℕ) where
     pub inside : i + p * e ≤ suc (length x)
     pub stand : stretch x (p * e) i ≡ written e (stretch x p i)
     pub ends : i + p * suc e ≤ suc (length x) → stretch x (p * suc e) i ≡ written (suc e) (stretch x p i) → ⊥
-    pub prim : (u : List ℕ) (k : ℕ) → 2 ≤ k → stretch x p i ≡ written k u → ⊥
+    pub prim : Unwritten (stretch x p i)
 
   -- the test says yes if and only if the claim is true, whatever the numbers
   pub claim-means : (i p e : ℕ) → (repeats x i p e ≡ true) ↔ Claim i p e
@@ -166,5 +173,5 @@ pub record Edges : Type 0 where
   pub none : (repeats (0 ∷ 0 ∷ []) 0 1 2 ≡ false) × (repeats (0 ∷ 0 ∷ []) 1 0 2 ≡ false) × (repeats (0 ∷ 0 ∷ []) 1 1 0 ≡ false) × (repeats (0 ∷ 0 ∷ []) 1 1 1 ≡ false)
 
 pub edges : Edges
-unfolding first every gather cells at letterOf letter stretch same alike stands primitive repeats copies
+unfolding first every gather cells at letterOf letter stretch same alike stands writes primitive repeats copies
 edges = record { zeros = (refl, refl, refl); last = (refl, refl, refl); large = (refl, refl); none = (refl, refl, refl, refl) }

@@ -8,7 +8,7 @@ use Rattle.words.specs.Range.{first, every, sum, count, gather, cells, c
 use Rattle.words.specs.Rows.{rows, cell}
 use Rattle.words.specs.ByPeriod.{rowIf, rowsAt, byPeriod}
 use Rattle.words.specs.Reads.{at, letterOf, letter, fits, stretch, same, alike}
-use Rattle.words.specs.Repeats.{stands, primitive, repeats, leads, copies}
+use Rattle.words.specs.Repeats.{stands, writes, primitive, repeats, leads, copies}
 use Rattle.words.specs.Lists.{lineOf, lineSize, lineAt, listed, linesAt, lines, inMode}
 use Rattle.words.specs.Groups.{share, name, table, size, beats, big, allSmall, partsSmall, smalls}
 use Rattle.words.specs.Moves.{topOf, top, moveOf, moveSize, widthCell, widthOf, nameOf, placeOf, moveAt, movesOf, movesIn, moves, log, log2, M}
@@ -72,7 +72,7 @@ pub record Known : Type 0 where
   pub between : lines ACACNACAC (inMode ACACNACAC 0) ≡ 1 ∷ 2 ∷ 2 ∷ 6 ∷ 2 ∷ 2 ∷ []
 
 pub known : Known
-unfolding first every sum count gather cells column leader rows cell at letterOf letter fits stretch same alike stands primitive repeats leads copies rowIf rowsAt byPeriod lineOf lineSize lineAt listed linesAt lines inMode share name table size beats big allSmall partsSmall smalls topOf top moveOf moveSize widthCell widthOf nameOf placeOf moveAt movesOf movesIn moves log log2 M
+unfolding first every sum count gather cells column leader rows cell at letterOf letter fits stretch same alike stands writes primitive repeats leads copies rowIf rowsAt byPeriod lineOf lineSize lineAt listed linesAt lines inMode share name table size beats big allSmall partsSmall smalls topOf top moveOf moveSize widthCell widthOf nameOf placeOf moveAt movesOf movesIn moves log log2 M
 known =
     record {
       R1 = (refl, refl);

@@ -3,7 +3,7 @@
 use Prim.Native.Nat.{ℕ, zero, suc, _+_, _-_, _*_, _/_, _%_, _≤_, _<_}
 use mathlib.Core.Path.{_≡_, refl, sym, ap, subst, _∙_}
 use mathlib.Core.Logic.{_⊎_, inl, inr, _↔_, _≢_}
-use mathlib.Core.Bool.{Bool, true, false, _&&_, not, cond}
+use mathlib.Core.Bool.{Bool, true, false, not, cond}
 use mathlib.Core.List.{List}
 use native.Mathlib.Omega.{arith}
 use native.Mathlib.Nat.{eq-or-lt-of-le, mod-lt, mod-eq-of-lt, mod-add-mod, add-mod-right, mod-eq-sub-mod, div-add-mod, mul-mod-right, mul-div-cancel-left, mul-le-mul-left, lt-of-mul-lt-mul-left}
@@ -12,7 +12,7 @@ use lib.Dec.{leb, eqb}
 use borrow.Author.Tests.{leb-true, le-leb, eqb-true, eq-eqb, not-true}
 use Rattle.words.specs.Range.{first, every}
 use Rattle.words.specs.Reads.{at, letter, alike}
-use Rattle.words.specs.Repeats.{stands, primitive, repeats}
+use Rattle.words.specs.Repeats.{stands, writes, primitive, repeats}
 use Rattle.words.specs.Groups.{table, gap}
 use Rattle.words.proofs.Tests.{and-left, and-right, and-both, clash, either, lt-or-ge, not-both, fails}
 use Rattle.words.proofs.Ranges.{every-at, every-of, found, Found}
@@ -42,23 +42,28 @@ module _ (x : List ℕ) where
       (le-leb (i + p * e) (suc (length x)) (h .0))
       (every-of (λ m. alike x p i (i + p * m)) e 0 (λ k a b. is-alike x p i (i + p * k) (h .1 k (omega arith))))
 
+  -- the p bytes from i are their first d bytes, written over and over
+  abbrev pub Writes : ℕ → ℕ → ℕ → Type 0
+  Writes i p d = (p % d ≡ 0) × Stands i d (p / d)
+
+  pub writes-is : (i p d : ℕ) → writes x i p d ≡ true → Writes i p d
+  unfolding writes
+  writes-is i p d t = (eqb-true (p % d) 0 (and-left (eqb (p % d) 0) (stands x i d (p / d)) t), stands-is i d (p / d) (and-right (eqb (p % d) 0) (stands x i d (p / d)) t))
+
+  pub is-writes : (i p d : ℕ) → Writes i p d → writes x i p d ≡ true
+  unfolding writes
+  is-writes i p d w = and-both (eqb (p % d) 0) (stands x i d (p / d)) (eq-eqb (p % d) 0 (w .0)) (is-stands i d (p / d) (w .1))
+
   abbrev pub Primitive : ℕ → ℕ → Type 0
   Primitive i p = (d : ℕ) → 1 ≤ d → d < p → p % d ≡ 0 → Stands i d (p / d) → ⊥
 
   pub primitive-is : (i p : ℕ) → primitive x i p ≡ true → Primitive i p
   unfolding primitive
-  primitive-is i p t d a b e s =
-      clash
-      (and-both (eqb (p % d) 0) (stands x i d (p / d)) (eq-eqb (p % d) 0 e) (is-stands i d (p / d) s))
-      (not-true (eqb (p % d) 0 && stands x i d (p / d)) (every-at (λ c. not (eqb (p % c) 0 && stands x i c (p / c))) (p - 1) 1 t d a (omega arith)))
+  primitive-is i p t d a b e s = clash (is-writes i p d (e, s)) (not-true (writes x i p d) (every-at (λ c. not (writes x i p c)) (p - 1) 1 t d a (omega arith)))
 
   pub is-primitive : (i p : ℕ) → Primitive i p → primitive x i p ≡ true
   unfolding primitive
-  is-primitive i p h = every-of (λ c. not (eqb (p % c) 0 && stands x i c (p / c))) (p - 1) 1 (λ d a b. go d a b (either (eqb (p % d) 0 && stands x i d (p / d))))
-    where
-      go : (d : ℕ) → 1 ≤ d → d < 1 + (p - 1) → (eqb (p % d) 0 && stands x i d (p / d) ≡ true) ⊎ (eqb (p % d) 0 && stands x i d (p / d) ≡ false) → not (eqb (p % d) 0 && stands x i d (p / d)) ≡ true
-      go d a b (inl t) = absurd (h d a (omega arith) (eqb-true (p % d) 0 (and-left (eqb (p % d) 0) (stands x i d (p / d)) t)) (stands-is i d (p / d) (and-right (eqb (p % d) 0) (stands x i d (p / d)) t)))
-      go d a b (inr t) = rw t
+  is-primitive i p h = every-of (λ c. not (writes x i p c)) (p - 1) 1 (λ d a b. fails (writes x i p d) (λ t. let w = writes-is i p d t in h d a (omega arith) (w .0) (w .1)))
 
   -- the next position of the group of i at width p is p further
   abbrev pub Next : ℕ → ℕ → Type 0

@@ -75,10 +75,6 @@ pub bit-le : (b : Bool) → bit b ≤ 1
 bit-le true = omega arith
 bit-le false = omega arith
 
-pub bit-one : (b : Bool) → bit b ≡ 1 → b ≡ true
-bit-one true e = refl
-bit-one false e = absurd (omega (arith, e))
-
 pub bit-mono : (p r : Bool) → (p ≡ true → r ≡ true) → bit p ≤ bit r
 bit-mono true r h = rw (h refl) (omega arith)
 bit-mono false r h = omega arith

@@ -1,19 +1,16 @@
 -- Document 02, item 2: capital N equals nothing but itself at its own position. What that says of stretches, groups and repeats. Assumes nothing.
-use Prim.Native.Nat.{ℕ, _+_, _-_, _*_, _/_, _%_, _≤_, _<_}
-use mathlib.Core.Path.{_≡_, refl, sym, ap, _∙_}
+use Prim.Native.Nat.{ℕ, _+_, _*_, _/_, _%_, _≤_, _<_}
+use mathlib.Core.Path.{_≡_, ap, _∙_}
 use mathlib.Core.Logic.{_⊎_, inl, inr, by-cases, ⊎-elim, _↔_, _≢_}
-use mathlib.Core.Bool.{Bool, true, false, cond, not}
-use mathlib.Core.List.{List, []}
+use mathlib.Core.Bool.{true}
+use mathlib.Core.List.{List}
 use native.Mathlib.Omega.{arith}
-use native.Mathlib.Nat.{mod-lt, div-add-mod, mul-le-mul-left, lt-of-mul-lt-mul-left}
+use native.Mathlib.Nat.{mod-lt, div-add-mod, lt-of-mul-lt-mul-left}
 use native.Mathlib.Decide.{ℕ-discrete}
-use lib.ListN.{length, getD, take, drop, length-take}
-use lib.Seq.{getD-take, getD-drop}
+use lib.ListN.{length}
 use Rattle.words.specs.Reads.{at, unread, letter, alike}
 use Rattle.words.specs.Repeats.{repeats}
 use Rattle.words.specs.Groups.{table}
-use Rattle.words.specs.Calls.{tooLong, shown, motif}
-use Rattle.words.proofs.Tests.{and-right}
 use Rattle.words.proofs.Letters.{letters-tell, letters-same}
 use Rattle.words.proofs.Stretches.{Alike, alike-is, is-alike}
 use Rattle.words.proofs.Groups.{table-share}
@@ -69,18 +66,3 @@ module _ (x : List ℕ) where
       (λ (q : i ≡ i + p * (k / p)). λ n. two .1 (ap (at x) (omega (arith, q, whole)) ∙ n))
       (λ (b : (at x (i + k % p) ≡ at x (i + p * (k / p) + k % p)) × (at x (i + k % p) ≢ unread)). λ n. b .1 (b .0 ∙ ap (at x) (omega (arith, whole)) ∙ n))
       (by-cases (ℕ-discrete i (i + p * (k / p))) inl (λ ne. inr (alike-bytes p i (i + p * (k / p)) ne (r .stand .1 (k / p) turns) (k % p) rest)))
-
-  -- nor is one in a motif that is shown
-  pub motif-read : (i p e k : ℕ) → k < length (motif x i p e) → getD (motif x i p e) k 0 ≢ unread
-  unfolding motif shown at
-  motif-read i p e k = go (shown x i p e) refl
-    where
-      go : (t : Bool) → shown x i p e ≡ t → k < length (cond t (take p (drop (i - 1) x)) []) → getD (cond t (take p (drop (i - 1) x)) []) k 0 ≢ unread
-      go false q l n = absurd (omega arith)
-      go true q l n =
-          let yes = and-right (not (tooLong x)) (repeats x i p e) q in
-          let r = repeat-is x i p e yes in
-          let whole : p * 2 ≤ p * e = mul-le-mul-left p (r .twice) in
-          let inside : k < p = omega (arith, l, length-take p (drop (i - 1) x)) in
-          repeat-read i p e yes k (omega arith)
-          (ap (λ (v : ℕ). getD x v 0) (omega (arith, r .start)) ∙ sym (getD-drop (i - 1) x k 0) ∙ sym (getD-take p (drop (i - 1) x) k 0 inside) ∙ n)

@@ -7,7 +7,7 @@ use Rattle.words.specs.Range.{first, every, sum, count, largest, gather, cells}
 use Rattle.words.specs.Rows.{rows, cell}
 use Rattle.words.specs.ByPeriod.{rowIf, rowsAt, byPeriod}
 use Rattle.words.specs.Reads.{at, letterOf, letter, stretch, same, alike, fits}
-use Rattle.words.specs.Repeats.{stands, primitive, leads, copies}
+use Rattle.words.specs.Repeats.{stands, writes, primitive, leads, copies}
 use Rattle.words.specs.Lists.{lineOf, lineSize, periodCell, startOf, periodOf, copiesOf, lineAt, listed, linesAt, lines, lineCount, inMode}
 use Rattle.words.specs.Logs.{within}
 use Rattle.words.specs.Answers.{success, both, refusal}
@@ -39,7 +39,7 @@ pub record Known : Type 0 where
   pub found : (lookupGives index5 2 ≡ Looked.Entry 1 1 2 2) × (lookupGives index5 4 ≡ Looked.Nothing) × (lookupGives (2 ∷ 5 ∷ 6 ∷ 7 ∷ 2 ∷ 8 ∷ 9 ∷ 9 ∷ 3 ∷ []) 2 ≡ Looked.Entry 0 5 6 7) × (lookupGives (3 ∷ 0 ∷ 1 ∷ []) 3 ≡ Looked.Nothing)
 
 pub known : Known
-unfolding first every sum count largest gather cells at rows cell letterOf letter stretch same alike fits stands primitive leads copies rowIf rowsAt byPeriod lineOf lineSize periodCell startOf periodOf copiesOf lineAt listed linesAt lines lineCount inMode within success both refusal refuse tooLong afterwards listAfterwards ahead placed firstLoose inOrder hasPeriod firstLine occurs manyLines copiesIf mostCopies entryOf entrySize entryAt entryIf periodsEnd index entryCount firstEntry indexAnswer indexLeaves listIndexAnswer listIndexLeaves listIndexBeside lookupGives
+unfolding first every sum count largest gather cells at rows cell letterOf letter stretch same alike fits stands writes primitive leads copies rowIf rowsAt byPeriod lineOf lineSize periodCell startOf periodOf copiesOf lineAt listed linesAt lines lineCount inMode within success both refusal refuse tooLong afterwards listAfterwards ahead placed firstLoose inOrder hasPeriod firstLine occurs manyLines copiesIf mostCopies entryOf entrySize entryAt entryIf periodsEnd index entryCount firstEntry indexAnswer indexLeaves listIndexAnswer listIndexLeaves listIndexBeside lookupGives
 known =
     record {
       made = refl;

@@ -1,36 +1,29 @@
--- `call_claims::motif_part` meets its contract: after a yes the motif is shown, and after any other answer it is not. Assumes nothing.
-use mathlib.Core.Path.{_≡_, sym, ap, _∙_}
-use mathlib.Core.Bool.{true, false}
+-- `call_claims::motif_part` meets its contract: the part is shown or hidden by its length. Assumes nothing.
+use Prim.Native.Nat.{_≤_}
+use mathlib.Core.Path.{sym, _∙_}
 use native.Mathlib.Omega.{arith}
-use denote.Ref.{now}
-use Rattle.words.specs.Calls.{shown}
-use Rattle.call_claims.proofs.Said.{isYes, other-tag-not-yes, yes-shown}
-use Rattle.call_claims.proofs.Motifs.{shown-inside}
-use Rattle.call_claims.proofs.Parts.{part-shown, part-hidden}
 use borrow.Author.Needs.{needs}
+use denote.Ref.{now}
+use Rattle.words_claims.specs.Calls.{motifLength}
+use Rattle.words_claims.proofs.Motifs.{shown-fits}
+use Rattle.call_claims.proofs.Parts.{part-shown, part-hidden}
 use Rattle.call_claims.proofs.motif_part.Statement.{statement}
 use Rattle.call_claims.proofs.motif_part.Tie as tie
 
-claim-shown : (c : tie.After-enum-told) → let a = c .before .before .before .before .args in shown (now (a .read)) (a .start) (a .period) (a .copies) ≡ true
-claim-shown c = sym (yes-shown _ _ _ _ _ (c .before .before .claim .ensures)) ∙ ap isYes (c .enum-told .given .1)
+some : (c : tie.Else1) → let a = c .before .before .before .args in 1 ≤ motifLength (now (a .read)) (a .start) (a .period) (a .copies)
+some c = omega (arith, c .before .motif-length .ensures, c .if1 .left)
 
-claim-hidden : (c : tie.At-match-keys2) → let a = c .before .before .before .args in shown (now (a .read)) (a .start) (a .period) (a .copies) ≡ false
-claim-hidden c = sym (yes-shown _ _ _ _ _ (c .before .claim .ensures)) ∙ other-tag-not-yes (c .before .claim .result) (c .match .keys2)
-
-claim-requires : tie.Need-claim-requires
-claim-requires c κs = search needs
-
-enum-told : tie.Need-enum-told
-enum-told c = search needs
-
-sub-t7 : tie.Need-sub-t7
-sub-t7 c = omega (arith, shown-inside _ _ _ _ (claim-shown c))
+motif-length-requires : tie.Need-motif-length-requires
+motif-length-requires c κs = search needs
 
 returns : tie.Need-returns
-returns c = part-shown _ _ _ _ (claim-shown c)
+returns c = part-hidden _ _ _ _ (sym (c .before .motif-length .ensures) ∙ c .if1 .taken)
+
+sub-t8 : tie.Need-sub-t8
+sub-t8 c = omega (arith, shown-fits _ _ _ _ (some c))
 
 returns-2 : tie.Need-returns-2
-returns-2 c = part-hidden _ _ _ _ (claim-hidden c)
+returns-2 c = rw (c .before .motif-length .ensures) (part-shown _ _ _ _ (some c))
 
 pub motif-part-spec : {M : Type 1} → statement M
-motif-part-spec = tie.close (tie.spec claim-requires enum-told sub-t7 returns returns-2)
+motif-part-spec = tie.close (tie.spec motif-length-requires returns sub-t8 returns-2)

@@ -1,0 +1,139 @@
+-- The root of a motif, by its length: it is the least that writes the motif, it is primitive, no other primitive one writes the motif, and it is the whole motif if and only
+-- if that is primitive. Assumes nothing.
+use Prim.Native.Nat.{ℕ, suc, _+_, _-_, _*_, _/_, _%_, _≤_, _<_, _∣_}
+use mathlib.Core.Path.{_≡_, sym, ap, subst, _∙_}
+use mathlib.Core.Logic.{⊎-elim, _↔_}
+use mathlib.Core.Bool.{true}
+use mathlib.Core.List.{List}
+use native.Mathlib.Omega.{arith}
+use native.Mathlib.Nat.{div-add-mod, mod-self, mod-lt, mod-eq-of-lt, add-mod-right, mod-mod-of-dvd, mul-add-mod-self-left, mul-le-mul-left, mul-div-cancel', lt-of-mul-lt-mul-left, dvd-of-mod-eq-zero, mod-eq-zero-of-dvd, dvd-trans, dvd-mul-right, le-of-dvd}
+use lib.ListN.{length}
+use Rattle.words.specs.Reads.{letter}
+use Rattle.words.specs.Repeats.{writes, primitive}
+use Rattle.words.proofs.Tests.{clash, lt-or-ge}
+use Rattle.words.proofs.Ranges.{found, Found}
+use Rattle.words.proofs.Repeats.{Stands, Writes, writes-is, is-writes, Primitive, primitive-is, is-primitive}
+use Rattle.words.proofs.Periods.{Period, Common, common, period-times}
+use Rattle.words_claims.specs.Claims.{root}
+
+module _ (x : List ℕ) (i : ℕ) where
+  -- the first q letters from i are the first d of them, over and over
+  abbrev pub Folds : ℕ → ℕ → Type 0
+  Folds d q = (k : ℕ) → k < q → letter x (i + k) ≡ letter x (i + k % d)
+
+  stands-folds : (d e : ℕ) → 1 ≤ d → Stands x i d e → Folds d (d * e)
+  stands-folds d e h s k l =
+      let whole : d * (k / d) + k % d ≡ k = div-add-mod k d in
+      let turns : k / d < e = lt-of-mul-lt-mul-left d (omega (arith, whole)) in
+      ap (letter x) (omega (arith, whole)) ∙ sym (s .1 (k / d) turns (k % d) (mod-lt k h))
+
+  folds-stands : (d e : ℕ) → 1 ≤ d → i + d * e ≤ suc (length x) → Folds d (d * e) → Stands x i d e
+  folds-stands d e h f g = (
+    f,
+    λ k l m lm.
+        let most : d * suc k ≤ d * e = mul-le-mul-left d l in
+        let next : d * suc k ≡ d * k + d = omega arith in
+        let rest : (d * k + m) % d ≡ m = mul-add-mod-self-left d k m ∙ mod-eq-of-lt lm in
+        sym (ap (letter x) (omega arith) ∙ g (d * k + m) (omega arith) ∙ ap (λ (v : ℕ). letter x (i + v)) rest),
+  )
+
+  -- what writes p letters folds them
+  pub writes-folds : (p d : ℕ) → 1 ≤ d → Writes x i p d → Folds d p
+  writes-folds p d a w k l = stands-folds d (p / d) a (w .1) k (omega (arith, div-add-mod p d, w .0))
+
+  folds-writes : (p d : ℕ) → 1 ≤ d → d ∣ p → i + p ≤ suc (length x) → Folds d p → Writes x i p d
+  folds-writes p d a c f g =
+      let whole : d * (p / d) ≡ p = mul-div-cancel' d c in
+      (mod-eq-zero-of-dvd d c, folds-stands d (p / d) a (omega (arith, whole)) (λ k l. g k (omega (arith, whole))))
+
+  -- every stretch that fits is itself, written once
+  pub writes-self : (p : ℕ) → 1 ≤ p → i + p ≤ suc (length x) → Writes x i p p
+  writes-self p h f = folds-writes p p h (dvd-of-mod-eq-zero p (mod-self p)) f (λ k l. ap (λ (v : ℕ). letter x (i + v)) (sym (mod-eq-of-lt l)))
+
+module _ (x : List ℕ) (i p : ℕ) (h : 1 ≤ p) where
+  sought : Found (writes x i p) (p - 1) 1 (root x i p)
+  unfolding root
+  sought = found (writes x i p) (p - 1) 1
+
+  pub root-some : 1 ≤ root x i p
+  root-some = sought .low
+
+  pub root-high : root x i p ≤ p
+  root-high = omega (arith, sought .high)
+
+  pub root-least : (d : ℕ) → 1 ≤ d → Writes x i p d → root x i p ≤ d
+  root-least d a w = ⊎-elim (λ l. clash (is-writes x i p d w) (sought .least d a l)) (λ l. l) (lt-or-ge d (root x i p))
+
+  module _ (f : i + p ≤ suc (length x)) where
+    pub root-writes : Writes x i p (root x i p)
+    root-writes =
+        ⊎-elim
+        (λ l. writes-is x i p (root x i p) (sought .pass l))
+        (λ l. let e : root x i p ≡ p = omega (arith, l, root-high) in rw e (writes-self x i p h f))
+        (lt-or-ge (root x i p) (1 + (p - 1)))
+
+    divides : (d : ℕ) → Writes x i p d → d ∣ p
+    divides d w = dvd-of-mod-eq-zero d (w .0)
+
+    -- what writes the root writes the motif
+    pub root-primitive : Primitive x i (root x i p)
+    root-primitive d a b e s =
+        let r : ℕ = root x i p in
+        let c : d ∣ r = dvd-of-mod-eq-zero d e in
+        let g : Folds x i d p = λ k l.
+        writes-folds x i p r root-some root-writes k l
+        ∙ writes-folds x i r d a (e, s) (k % r) (mod-lt k root-some)
+        ∙ ap (λ (v : ℕ). letter x (i + v)) (mod-mod-of-dvd d k c) in
+        omega (arith, root-least d a (folds-writes x i p d a (dvd-trans d c (divides r root-writes)) f g), b)
+
+    -- the motif, turned round and round: what writes it is a period of that
+    turn : ℕ → ℕ
+    turn k = letter x (i + k % p)
+
+    turn-low : (k : ℕ) → k < p → turn k ≡ letter x (i + k)
+    unfolding turn
+    turn-low k l = rw (mod-eq-of-lt l)
+
+    turn-period : (d : ℕ) → 1 ≤ d → Writes x i p d → Period turn d
+    unfolding turn
+    turn-period d a w k =
+        let c : d ∣ p = divides d w in
+        writes-folds x i p d a w ((k + d) % p) (mod-lt (k + d) h)
+        ∙ ap (λ (v : ℕ). letter x (i + v)) (mod-mod-of-dvd d (k + d) c ∙ add-mod-right k d ∙ sym (mod-mod-of-dvd d k c))
+        ∙ sym (writes-folds x i p d a w (k % p) (mod-lt k h))
+
+    -- two lengths that write the motif have a common divisor that does, so that the root divides each
+    pub root-divides : (d : ℕ) → 1 ≤ d → Writes x i p d → root x i p ∣ d
+    root-divides d a w = go (common turn (d + root x i p) d (root x i p) (omega arith) a root-some (turn-period d a w) (turn-period (root x i p) root-some root-writes))
+      where
+        go : Common turn d (root x i p) → root x i p ∣ d
+        go c =
+            let cd : c .d ∣ d = subst (λ (v : ℕ). c .d ∣ v) (c .left) (dvd-mul-right (c .d) (c .s)) in
+            let cr : c .d ∣ root x i p = subst (λ (v : ℕ). c .d ∣ v) (c .right) (dvd-mul-right (c .d) (c .t)) in
+            let cp : c .d ∣ p = dvd-trans (c .d) cd (divides d w) in
+            let small : c .d ≤ p = le-of-dvd h cp in
+            let g : Folds x i (c .d) p = λ k l.
+            sym (turn-low k l)
+            ∙ ap turn (sym (div-add-mod k (c .d)) ∙ omega arith)
+            ∙ period-times turn (c .d) (c .period) (k / c .d) (k % c .d)
+            ∙ turn-low (k % c .d) (omega (arith, mod-lt k (c .pos))) in
+            let up : root x i p ≤ c .d = root-least (c .d) (c .pos) (folds-writes x i p (c .d) (c .pos) cp f g) in
+            let same : c .d ≡ root x i p = omega (arith, le-of-dvd root-some cr) in
+            rw same at cd
+
+    -- so it is the only one that is primitive
+    pub root-only : (d : ℕ) → 1 ≤ d → Writes x i p d → Primitive x i d → d ≡ root x i p
+    root-only d a w prim =
+        let c : root x i p ∣ d = root-divides d a w in
+        let low : root x i p ≤ d = le-of-dvd a c in
+        let fits : i + d ≤ suc (length x) = omega (arith, le-of-dvd h (divides d w)) in
+        let g : Folds x i (root x i p) d = λ k l. writes-folds x i p (root x i p) root-some root-writes k (omega (arith, l, le-of-dvd h (divides d w))) in
+        let v : Writes x i d (root x i p) = folds-writes x i d (root x i p) root-some c fits g in
+        ⊎-elim (λ l. absurd (prim (root x i p) root-some l (v .0) (v .1))) (λ l. omega arith) (lt-or-ge (root x i p) d)
+
+    -- and the whole motif if and only if that is primitive
+    pub root-whole : (primitive x i p ≡ true) ↔ (root x i p ≡ p)
+    root-whole = (
+      λ t. sym (root-only p h (writes-self x i p h f) (primitive-is x i p t)),
+      λ e. is-primitive x i p (rw e at root-primitive),
+    )
