@@ -43,7 +43,7 @@ enum {
 /* what a claim is told: the value of sorunggyeo_claim where it is not refused. There is no 0: a program that took 0 for no must be written anew */
 enum {
     SORUNGGYEO_CLAIM_YES = 1,     /* it is a repeat */
-    SORUNGGYEO_CLAIM_COPIES = 2,  /* no: `more` is how often that motif stands there in a row, 1 or more; or the claim is of one copy, and that never is a repeat */
+    SORUNGGYEO_CLAIM_COPIES = 2,  /* no: `more` is how often the motif stands there in a row, 1 or more; a claim of one copy is never a repeat */
     SORUNGGYEO_CLAIM_SHORTER = 3, /* no: the motif is a shorter one repeated; `more` is the length of its primitive root */
     SORUNGGYEO_CLAIM_OUTSIDE = 4  /* no: a 0 among the three, or a last byte beyond the read */
 };

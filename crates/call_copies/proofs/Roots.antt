@@ -57,7 +57,7 @@ module _ (x : List ℕ) (i p : ℕ) where
           let left : (p - k) % k ≡ p - k = mod-eq-of-lt (omega arith) in
           omega arith
 
-  -- a length that divides p
+  -- one length tried
   module _ (d : ℕ) (a : 1 ≤ d) (b : d < p) where
     pub inside-high : (m : ℕ) → m ≡ agreedInside x i p d → m ≤ p - d
     unfolding agreedInside
@@ -71,21 +71,26 @@ module _ (x : List ℕ) (i p : ℕ) where
         (either (eqb (p % d) 0))
 
     module _ (m : ℕ) (q : m ≡ agreedInside x i p d) (n : m ≢ p - d) where
-      -- if k writes the motif and no more than m bases lie in it, the base behind them agrees too
+      -- if a length up to m wrote the motif, the base behind those that agree would agree too
       agrees-on : m ≡ agreed x (p - d) i (i + d) → (k : ℕ) → 1 ≤ k → k ≤ m → writes x i p k ≡ true → ⊥
-      agrees-on e k c l t =
-          let less : m < p - d = omega (arith, n, e, agreed-high x (p - d) i (i + d)) in
-          let g : Folds x i k p = writes-folds x i p k c (writes-is x i p k t) in
-          let r : m % k < k = mod-lt m c in
-          let on : letter x (i + m) ≡ letter x (i + d + m) =
-          g m (omega arith)
-          ∙ agreed-alike x (p - d) i (i + d) (m % k) (omega (arith, e))
-          ∙ ap (letter x) (omega arith)
-          ∙ g (d + m % k) (omega arith)
-          ∙ ap (λ (v : ℕ). letter x (i + v)) (add-mod-mod d m k)
-          ∙ sym (g (d + m) (omega arith))
-          ∙ ap (letter x) (omega arith) in
-          agreed-ends x (p - d) i (i + d) (omega (arith, e)) (rw e at on)
+      agrees-on e k c l t = agreed-ends x (p - d) i (i + d) (omega (arith, e, less)) (rw e at next)
+        where
+          less : m < p - d
+          less = omega (arith, n, e, agreed-high x (p - d) i (i + d))
+
+          folds : Folds x i k p
+          folds = writes-folds x i p k c (writes-is x i p k t)
+
+          next : letter x (i + m) ≡ letter x (i + d + m)
+          next =
+              let r : m % k < k = mod-lt m c in
+              folds m (omega (arith, less))
+              ∙ agreed-alike x (p - d) i (i + d) (m % k) (omega (arith, e))
+              ∙ ap (letter x) (omega arith)
+              ∙ folds (d + m % k) (omega (arith, less))
+              ∙ ap (λ (v : ℕ). letter x (i + v)) (add-mod-mod d m k)
+              ∙ sym (folds (d + m) (omega (arith, less)))
+              ∙ ap (letter x) (omega arith)
 
       jump-writes : (k : ℕ) → d < k → k ≤ m → writes x i p k ≡ false
       unfolding agreedInside

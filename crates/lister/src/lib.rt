@@ -1,5 +1,6 @@
 // The library that a tablet links: the public calls of documents 01 and 02. None of them has a `requires`: any slice, any mode, any width and any
-// u32 is answered. What each answers and leaves in each slice stands in specs/Calls.antt of crates/words, words_index and words_runs; docs/CONTRACTS.md has a row for each.
+// u32 is answered. What each answers and leaves in each slice stands in specs/Calls.antt of crates/words, words_index, words_runs and words_claims; docs/CONTRACTS.md has a
+// row for each.
 // proofs/Demands.antt has the three theorems that a reader should open first.
 pub use call_claims::claim;
 pub use call_claims::motif;

@@ -32,8 +32,8 @@ written-at (suc k) u (suc m) r h l =
     ap (λ (v : ℕ). getD (u ++ written k u) v 0) (omega arith) ∙ getD-append-add u (written k u) (length u * m + r) 0 ∙ written-at k u m r (omega arith) l
 
 -- a string is primitive: it is no shorter string written twice or more
-abbrev pub Unwritten : List ℕ → Type 0
-Unwritten u = (v : List ℕ) (k : ℕ) → 2 ≤ k → u ≡ written k v → ⊥
+abbrev pub PrimitiveString : List ℕ → Type 0
+PrimitiveString u = (v : List ℕ) (k : ℕ) → 2 ≤ k → u ≡ written k v → ⊥
 
 module _ (x : List ℕ) where
   pub stretch-length : (w i : ℕ) → length (stretch x w i) ≡ w
@@ -102,7 +102,7 @@ module _ (x : List ℕ) where
       some (suc d) k l = omega arith
 
   -- a motif is primitive: it is no shorter string written twice or more
-  pub primitive-means : (i p : ℕ) → 1 ≤ p → i + p ≤ suc (length x) → (primitive x i p ≡ true) ↔ Unwritten (stretch x p i)
+  pub primitive-means : (i p : ℕ) → 1 ≤ p → i + p ≤ suc (length x) → (primitive x i p ≡ true) ↔ PrimitiveString (stretch x p i)
   primitive-means i p h f = (λ t u k two e. short u k two e (primitive-is x i p t), λ g. is-primitive x i p (λ d a b c s. long d a b c s g))
     where
       short : (u : List ℕ) (k : ℕ) → 2 ≤ k → stretch x p i ≡ written k u → Primitive x i p → ⊥
@@ -110,7 +110,7 @@ module _ (x : List ℕ) where
           let w = written-writes i p u k h f e in
           prim (length u) (w .0) (omega (arith, mul-le-mul-left (length u) two, w .0, w .1)) (w .2 .0) (w .2 .1)
 
-      long : (d : ℕ) → 1 ≤ d → d < p → p % d ≡ 0 → Stands x i d (p / d) → Unwritten (stretch x p i) → ⊥
+      long : (d : ℕ) → 1 ≤ d → d < p → p % d ≡ 0 → Stands x i d (p / d) → PrimitiveString (stretch x p i) → ⊥
       long d a b c s g =
           let n : d * (p / d) ≡ p = omega (arith, div-add-mod p d, c) in
           g (stretch x d i) (p / d) (twice (p / d) n) (ap (λ (v : ℕ). stretch x v i) (sym n) ∙ stands-written i d (p / d) a s)
@@ -128,7 +128,7 @@ module _ (x : List ℕ) where
     pub inside : i + p * e ≤ suc (length x)
     pub stand : stretch x (p * e) i ≡ written e (stretch x p i)
     pub ends : i + p * suc e ≤ suc (length x) → stretch x (p * suc e) i ≡ written (suc e) (stretch x p i) → ⊥
-    pub prim : Unwritten (stretch x p i)
+    pub prim : PrimitiveString (stretch x p i)
 
   -- the test says yes if and only if the claim is true, whatever the numbers
   pub claim-means : (i p e : ℕ) → (repeats x i p e ≡ true) ↔ Claim i p e

@@ -56,14 +56,18 @@ module _ (x : List ℕ) (i p e : ℕ) where
   -- not one of the bytes is an N: a motif with one is told its count
   pub motif-read : (k : ℕ) → k < length (motif x i p e) → getD (motif x i p e) k 0 ≢ unread
   unfolding at shownOf motif
-  motif-read k l n =
-      let w : ℕ = motifLength x i p e in
-      let here : k < motifLength x i p e = few l in
-      let some : 1 ≤ motifLength x i p e = omega arith in
-      let s = shown-inside some in
-      let b : getD x (i + k - 1) 0 ≡ unread =
-      ap (λ (v : ℕ). getD x v 0) (omega (arith, s .1 .0)) ∙ sym (getD-drop (i - 1) x k 0) ∙ sym (getD-take (motifLength x i p e) (drop (i - 1) x) k 0 here) ∙ ap (λ (u : List ℕ). getD u k 0) (sym (shown-bytes some)) ∙ n in
-      omega (arith, some, length-of (Claimed.Copies 1) (unread-told x i p e (s .0) (s .1) k (omega (arith, s .2)) b))
+  motif-read k l n = let s = shown-inside some in omega (arith, some, length-of (Claimed.Copies 1) (unread-told x i p e (s .0) (s .1) k (omega (arith, here, s .2)) byte))
     where
-      few : k < length (motif x i p e) → k < motifLength x i p e
-      few l = omega (arith, length-take (motifLength x i p e) (drop (motifFrom x i p e) x))
+      here : k < motifLength x i p e
+      here = omega (arith, length-take (motifLength x i p e) (drop (motifFrom x i p e) x))
+
+      some : 1 ≤ motifLength x i p e
+      some = omega (arith, here)
+
+      byte : getD x (i + k - 1) 0 ≡ unread
+      byte =
+          ap (λ (v : ℕ). getD x v 0) (omega (arith, shown-fits some .0))
+          ∙ sym (getD-drop (i - 1) x k 0)
+          ∙ sym (getD-take (motifLength x i p e) (drop (i - 1) x) k 0 here)
+          ∙ ap (λ (u : List ℕ). getD u k 0) (sym (shown-bytes some))
+          ∙ n

@@ -12,20 +12,20 @@ use Rattle.words.specs.Reads.{stretch}
 use Rattle.words.specs.Repeats.{primitive, written}
 use Rattle.words.proofs.Stretches.{stretch-at}
 use Rattle.words.proofs.Repeats.{Writes, primitive-is, is-primitive}
-use Rattle.words.proofs.Claims.{Unwritten, stretch-length, stands-written, written-at, written-writes, primitive-means}
+use Rattle.words.proofs.Claims.{PrimitiveString, stretch-length, stands-written, written-at, written-writes, primitive-means}
 use Rattle.words_claims.specs.Claims.{root}
 use Rattle.words_claims.proofs.Roots.{root-some, root-high, root-writes, root-primitive, root-only}
 
 module _ (x : List ℕ) (i p : ℕ) (h : 1 ≤ p) (f : i + p ≤ suc (length x)) where
   -- what writes the motif by its length, as a string
-  pub writes-written : (d : ℕ) → 1 ≤ d → Writes x i p d → stretch x p i ≡ written (p / d) (stretch x d i)
+  writes-written : (d : ℕ) → 1 ≤ d → Writes x i p d → stretch x p i ≡ written (p / d) (stretch x d i)
   writes-written d a w = ap (λ (v : ℕ). stretch x v i) (omega (arith, div-add-mod p d, w .0)) ∙ stands-written x i d (p / d) a (w .1)
 
   pub root-written : stretch x p i ≡ written (p / root x i p) (stretch x (root x i p) i)
   root-written = writes-written (root x i p) (root-some x i p h) (root-writes x i p h f)
 
-  pub root-unwritten : Unwritten (stretch x (root x i p) i)
-  root-unwritten = primitive-means x i (root x i p) (root-some x i p h) (omega (arith, root-high x i p h)) .0 (is-primitive x i (root x i p) (root-primitive x i p h f))
+  pub root-string : PrimitiveString (stretch x (root x i p) i)
+  root-string = primitive-means x i (root x i p) (root-some x i p h) (omega (arith, root-high x i p h)) .0 (is-primitive x i (root x i p) (root-primitive x i p h f))
 
   -- a string that writes the motif is its front
   written-front : (u : List ℕ) (k : ℕ) → stretch x p i ≡ written k u → u ≡ stretch x (length u) i
@@ -49,7 +49,7 @@ module _ (x : List ℕ) (i p : ℕ) (h : 1 ≤ p) (f : i + p ≤ suc (length x))
           ∙ sym (stretch-at x (length u) i m l)
 
   -- the root is the only primitive string that writes the motif
-  pub root-is-the-only : (u : List ℕ) (k : ℕ) → stretch x p i ≡ written k u → Unwritten u → u ≡ stretch x (root x i p) i
+  pub root-is-the-only : (u : List ℕ) (k : ℕ) → stretch x p i ≡ written k u → PrimitiveString u → u ≡ stretch x (root x i p) i
   root-is-the-only u k e n =
       let w = written-writes x i p u k h f e in
       let q : u ≡ stretch x (length u) i = written-front u k e in

@@ -77,14 +77,16 @@ module _ (x : List ℕ) (i p : ℕ) (h : 1 ≤ p) where
 
     -- what writes the root writes the motif
     pub root-primitive : Primitive x i (root x i p)
-    root-primitive d a b e s =
-        let r : ℕ = root x i p in
-        let c : d ∣ r = dvd-of-mod-eq-zero d e in
-        let g : Folds x i d p = λ k l.
-        writes-folds x i p r root-some root-writes k l
-        ∙ writes-folds x i r d a (e, s) (k % r) (mod-lt k root-some)
-        ∙ ap (λ (v : ℕ). letter x (i + v)) (mod-mod-of-dvd d k c) in
-        omega (arith, root-least d a (folds-writes x i p d a (dvd-trans d c (divides r root-writes)) f g), b)
+    root-primitive d a b e s = omega (arith, root-least d a (folds-writes x i p d a (dvd-trans d inner (divides (root x i p) root-writes)) f folds), b)
+      where
+        inner : d ∣ root x i p
+        inner = dvd-of-mod-eq-zero d e
+
+        folds : Folds x i d p
+        folds k l =
+            writes-folds x i p (root x i p) root-some root-writes k l
+            ∙ writes-folds x i (root x i p) d a (e, s) (k % root x i p) (mod-lt k root-some)
+            ∙ ap (λ (v : ℕ). letter x (i + v)) (mod-mod-of-dvd d k inner)
 
     -- the motif, turned round and round: what writes it is a period of that
     turn : ℕ → ℕ
@@ -102,22 +104,26 @@ module _ (x : List ℕ) (i p : ℕ) (h : 1 ≤ p) where
         ∙ ap (λ (v : ℕ). letter x (i + v)) (mod-mod-of-dvd d (k + d) c ∙ add-mod-right k d ∙ sym (mod-mod-of-dvd d k c))
         ∙ sym (writes-folds x i p d a w (k % p) (mod-lt k h))
 
+    -- a period of it that divides p writes the motif
+    period-writes : (d : ℕ) → 1 ≤ d → d ∣ p → Period turn d → Writes x i p d
+    period-writes d a c per = folds-writes x i p d a c f folds
+      where
+        folds : Folds x i d p
+        folds k l =
+            sym (turn-low k l)
+            ∙ ap turn (sym (div-add-mod k d) ∙ omega arith)
+            ∙ period-times turn d per (k / d) (k % d)
+            ∙ turn-low (k % d) (omega (arith, mod-lt k a, le-of-dvd h c))
+
     -- two lengths that write the motif have a common divisor that does, so that the root divides each
-    pub root-divides : (d : ℕ) → 1 ≤ d → Writes x i p d → root x i p ∣ d
+    root-divides : (d : ℕ) → 1 ≤ d → Writes x i p d → root x i p ∣ d
     root-divides d a w = go (common turn (d + root x i p) d (root x i p) (omega arith) a root-some (turn-period d a w) (turn-period (root x i p) root-some root-writes))
       where
         go : Common turn d (root x i p) → root x i p ∣ d
         go c =
             let cd : c .d ∣ d = subst (λ (v : ℕ). c .d ∣ v) (c .left) (dvd-mul-right (c .d) (c .s)) in
             let cr : c .d ∣ root x i p = subst (λ (v : ℕ). c .d ∣ v) (c .right) (dvd-mul-right (c .d) (c .t)) in
-            let cp : c .d ∣ p = dvd-trans (c .d) cd (divides d w) in
-            let small : c .d ≤ p = le-of-dvd h cp in
-            let g : Folds x i (c .d) p = λ k l.
-            sym (turn-low k l)
-            ∙ ap turn (sym (div-add-mod k (c .d)) ∙ omega arith)
-            ∙ period-times turn (c .d) (c .period) (k / c .d) (k % c .d)
-            ∙ turn-low (k % c .d) (omega (arith, mod-lt k (c .pos))) in
-            let up : root x i p ≤ c .d = root-least (c .d) (c .pos) (folds-writes x i p (c .d) (c .pos) cp f g) in
+            let up : root x i p ≤ c .d = root-least (c .d) (c .pos) (period-writes (c .d) (c .pos) (dvd-trans (c .d) cd (divides d w)) (c .period)) in
             let same : c .d ≡ root x i p = omega (arith, le-of-dvd root-some cr) in
             rw same at cd
 

@@ -15,12 +15,12 @@ use Rattle.words.proofs.Tests.{and-both, clash, fails, lt-or-ge}
 use Rattle.words.proofs.Repeats.{Repeat, stands-is, is-stands, repeat-is, is-repeat, is-primitive}
 use Rattle.words.proofs.Copies.{copies-stand, copies-end, copies-is, repeat-copies}
 use Rattle.words.proofs.Lines.{copies-repeat}
-use Rattle.words.proofs.Claims.{Unwritten, stretch-length}
+use Rattle.words.proofs.Claims.{PrimitiveString, stretch-length}
 use Rattle.words_claims.specs.Claims.{root}
 use Rattle.words_claims.specs.Calls.{verdict}
 use Rattle.words_claims.specs.declared.Claimed.{Claimed}
 use Rattle.words_claims.proofs.Roots.{root-some, root-high, root-whole}
-use Rattle.words_claims.proofs.RootStrings.{root-written, root-unwritten, root-is-the-only}
+use Rattle.words_claims.proofs.RootStrings.{root-written, root-string, root-is-the-only}
 use Rattle.words_claims.proofs.Copies.{copies-some, unread-root, unread-copies}
 use Rattle.words_claims.proofs.Verdicts.{Outside, Inside, inside-or, inside-fits, tells-long, tells-outside, tells-shorter, tells-yes, tells-copies}
 
@@ -31,7 +31,7 @@ Says x i p e Claimed.Yes = (length x ≤ most) × (repeats x i p e ≡ true)
 -- it lies in the read, the motif is primitive, and stands c times in a row and no more; but it is no claim of these, or of one copy
 Says x i p e (Claimed.Copies c) = (length x ≤ most) × Inside x i p e × (primitive x i p ≡ true) × (1 ≤ c) × (stands x i p c ≡ true) × (stands x i p (suc c) ≡ false) × (2 ≤ e → c ≢ e)
 -- it lies in the read, and the motif is the string of its first d bytes, which is shorter and primitive, written several times
-Says x i p e (Claimed.Shorter d) = (length x ≤ most) × Inside x i p e × (1 ≤ d) × (d < p) × (stretch x p i ≡ written (p / d) (stretch x d i)) × Unwritten (stretch x d i)
+Says x i p e (Claimed.Shorter d) = (length x ≤ most) × Inside x i p e × (1 ≤ d) × (d < p) × (stretch x p i ≡ written (p / d) (stretch x d i)) × PrimitiveString (stretch x d i)
 -- it has a 0, or a last byte beyond the read
 Says x i p e Claimed.Outside = (length x ≤ most) × Outside x i p e
 -- the read has n bytes, more than 1,000
@@ -53,7 +53,7 @@ module _ (x : List ℕ) (i p e : ℕ) where
       tells-copies x i p e (s .0) n (omega arith) (λ l g. s .6 l (sym q ∙ g)) ∙ ap Claimed.Copies q
 
   -- the root named is the only primitive string that writes the motif
-  pub the-only-root : (d : ℕ) → Says x i p e (Claimed.Shorter d) → (u : List ℕ) (k : ℕ) → stretch x p i ≡ written k u → Unwritten u → u ≡ stretch x d i
+  pub the-only-root : (d : ℕ) → Says x i p e (Claimed.Shorter d) → (u : List ℕ) (k : ℕ) → stretch x p i ≡ written k u → PrimitiveString u → u ≡ stretch x d i
   the-only-root d s u k q n =
       let f : i + p ≤ suc (length x) = inside-fits x i p e (s .1) in
       root-is-the-only x i p (s .1 .1) f u k q n ∙ sym (root-is-the-only x i p (s .1 .1) f (stretch x d i) (p / d) (s .4) (s .5))
@@ -62,7 +62,7 @@ module _ (x : List ℕ) (i p e : ℕ) where
   shorter-told d s =
       let n = s .1 in
       let f : i + p ≤ suc (length x) = inside-fits x i p e n in
-      let q : stretch x (root x i p) i ≡ stretch x d i = the-only-root d s _ _ (root-written x i p (n .1) f) (root-unwritten x i p (n .1) f) in
+      let q : stretch x (root x i p) i ≡ stretch x d i = the-only-root d s _ _ (root-written x i p (n .1) f) (root-string x i p (n .1) f) in
       let w : root x i p ≡ d = sym (stretch-length x (root x i p) i) ∙ ap length q ∙ stretch-length x d i in
       tells-shorter x i p e (s .0) n (omega (arith, s .3)) ∙ ap Claimed.Shorter w
 
@@ -105,7 +105,7 @@ module _ (x : List ℕ) (i p e : ℕ) where
       inside : length x ≤ most → Inside x i p e → (root x i p < p) ⊎ (p ≤ root x i p) → (v : Claimed) × Says x i p e v
       inside m n (inl l) =
           let f : i + p ≤ suc (length x) = inside-fits x i p e n in
-          (Claimed.Shorter (root x i p), (m, n, root-some x i p (n .1), l, root-written x i p (n .1) f, root-unwritten x i p (n .1) f))
+          (Claimed.Shorter (root x i p), (m, n, root-some x i p (n .1), l, root-written x i p (n .1) f, root-string x i p (n .1) f))
       inside m n (inr l) = counts m n (omega (arith, l, root-high x i p (n .1)))
 
   -- an answer is given if and only if what it says is so

@@ -61,11 +61,11 @@ module _ (x : List ℕ) (i p e : ℕ) where
   pub inside-fits : Inside → i + p ≤ suc (length x)
   inside-fits n = omega (arith, n .3, mul-le-mul-left p (n .2))
 
-  pub counted-yes : 2 ≤ e → copies x i p ≡ e → counted x i p e ≡ true
+  counted-yes : 2 ≤ e → copies x i p ≡ e → counted x i p e ≡ true
   unfolding counted
   counted-yes l q = and-both (leb 2 e) (eqb (copies x i p) e) (le-leb 2 e l) (eq-eqb (copies x i p) e q)
 
-  pub counted-no : (2 ≤ e → copies x i p ≢ e) → counted x i p e ≡ false
+  counted-no : (2 ≤ e → copies x i p ≢ e) → counted x i p e ≡ false
   unfolding counted
   counted-no n = not-true (counted x i p e) (fails (counted x i p e) (λ t. n (leb-true 2 e (and-left (leb 2 e) (eqb (copies x i p) e) t)) (eqb-true (copies x i p) e (and-right (leb 2 e) (eqb (copies x i p) e) t))))
 
