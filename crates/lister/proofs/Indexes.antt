@@ -15,7 +15,7 @@ use Rattle.words.specs.Answers.{Answer, success, both, refusal, listedSays}
 use Rattle.words.specs.Calls.{refuse, afterwards}
 use Rattle.words.proofs.Tests.{lt-or-ge}
 use Rattle.words.proofs.Lists.{lines-full}
-use Rattle.words_index.specs.Index.{entrySize, index, entryCount}
+use Rattle.words_index.specs.Index.{entrySize, entryCount}
 use Rattle.words_index.specs.Calls.{indexAnswer, indexLeaves, indexedSays, listIndexAnswer, listIndexBeside, listIndexedSays}
 use Rattle.words_index.proofs.OfList.{lines-in-order}
 use Rattle.call_lists.proofs.list.Reads as list-call
