@@ -14,9 +14,9 @@ use Rattle.words.specs.Reads.{letter}
 use Rattle.words.specs.Repeats.{writes}
 use Rattle.words.proofs.Tests.{either, lt-or-ge}
 use Rattle.words.proofs.Searches.{Missed, missed-none, first-hit, first-ended}
-use Rattle.words.proofs.Repeats.{writes-is}
+use Rattle.words.proofs.Repeats.{Folds, writes-is}
 use Rattle.words_claims.specs.Claims.{root}
-use Rattle.words_claims.proofs.Roots.{Folds, writes-folds}
+use Rattle.words_claims.proofs.Roots.{writes-folds}
 use Rattle.call_copies.specs.Copies.{agreed, agreedInside}
 use Rattle.call_copies.proofs.Refuted.{test-refuted}
 use Rattle.call_copies.proofs.Stretched.{stretch-writes}

@@ -5,13 +5,13 @@ use mathlib.Core.Path.{_≡_, sym, ap, _∙_}
 use mathlib.Core.Bool.{false}
 use mathlib.Core.List.{List}
 use native.Mathlib.Omega.{arith}
-use native.Mathlib.Nat.{mod-lt, div-add-mod, mul-le-mul-left, lt-of-mul-lt-mul-left, le-div-iff-mul-le}
+use native.Mathlib.Nat.{div-add-mod, add-mod-right, mul-le-mul-left, le-div-iff-mul-le}
 use lib.ListN.{length}
 use Rattle.words.specs.Reads.{letter, alike}
 use Rattle.words.specs.Repeats.{stands}
 use Rattle.words.proofs.Tests.{same-test}
 use Rattle.words.proofs.Stretches.{Alike, alike-is, is-alike}
-use Rattle.words.proofs.Repeats.{stands-is, is-stands}
+use Rattle.words.proofs.Repeats.{Stands, stands-is, is-stands, stands-folds}
 use Rattle.call_copies.proofs.Refuted.{test-refuted}
 
 -- the first copy and the rest are the whole
@@ -26,12 +26,11 @@ module _ (x : List ℕ) (i p : ℕ) where
       let b : p * suc k ≤ p * c = mul-le-mul-left p (omega arith) in
       stretch-copies c a k (omega arith) m lm ∙ ap (letter x) (omega arith) ∙ a (p * k + m) (omega arith) ∙ ap (letter x) (omega arith)
 
-  copies-stretch : (c : ℕ) → 1 ≤ p → ((k : ℕ) → k < suc c → Alike x p i (i + p * k)) → Alike x (p * c) i (i + p)
+  copies-stretch : (c : ℕ) → 1 ≤ p → Stands x i p (suc c) → Alike x (p * c) i (i + p)
   copies-stretch c h s j l =
-      let whole : p * (j / p) + j % p ≡ j = div-add-mod j p in
-      let rest : j % p < p = mod-lt j h in
-      let turns : j / p < c = lt-of-mul-lt-mul-left p (omega arith) in
-      ap (letter x) (omega arith) ∙ sym (s (j / p) (omega arith) (j % p) rest) ∙ s (suc (j / p)) (omega arith) (j % p) rest ∙ ap (letter x) (omega arith)
+      let all : p * suc c ≡ p * c + p = omega arith in
+      let folds = stands-folds x i p (suc c) h s in
+      folds j (omega arith) ∙ ap (λ (v : ℕ). letter x (i + v)) (sym (add-mod-right j p)) ∙ sym (folds (j + p) (omega arith)) ∙ ap (letter x) (omega arith)
 
   pub stretch-stands : (e : ℕ) → 1 ≤ p → 1 ≤ e → i + p * e ≤ suc (length x) → alike x (p * (e - 1)) i (i + p) ≡ stands x i p e
   stretch-stands zero h g f = absurd (omega arith)
@@ -39,7 +38,7 @@ module _ (x : List ℕ) (i p : ℕ) where
       ap (λ (v : ℕ). alike x (p * v) i (i + p)) (omega arith)
       ∙ same-test (alike x (p * c) i (i + p)) (stands x i p (suc c))
       (λ t. is-stands x i p (suc c) (f, stretch-copies c (alike-is x (p * c) i (i + p) t)))
-      (λ t. is-alike x (p * c) i (i + p) (copies-stretch c h (stands-is x i p (suc c) t .1)))
+      (λ t. is-alike x (p * c) i (i + p) (copies-stretch c h (stands-is x i p (suc c) t)))
 
   pub past-stands : (e : ℕ) → suc (length x) < i + p * e → false ≡ stands x i p e
   past-stands e l = test-refuted (stands x i p e) (λ t. omega (arith, stands-is x i p e t .0))

@@ -6,49 +6,29 @@ use mathlib.Core.Logic.{⊎-elim, _↔_}
 use mathlib.Core.Bool.{true}
 use mathlib.Core.List.{List}
 use native.Mathlib.Omega.{arith}
-use native.Mathlib.Nat.{div-add-mod, mod-self, mod-lt, mod-eq-of-lt, add-mod-right, mod-mod-of-dvd, mul-add-mod-self-left, mul-le-mul-left, mul-div-cancel', lt-of-mul-lt-mul-left, dvd-of-mod-eq-zero, mod-eq-zero-of-dvd, dvd-trans, dvd-mul-right, le-of-dvd}
+use native.Mathlib.Nat.{div-add-mod, mod-self, mod-lt, mod-eq-of-lt, add-mod-right, mod-mod-of-dvd, mul-div-cancel', dvd-of-mod-eq-zero, mod-eq-zero-of-dvd, dvd-trans, dvd-mul-right, le-of-dvd}
 use lib.ListN.{length}
 use Rattle.words.specs.Reads.{letter}
 use Rattle.words.specs.Repeats.{writes, primitive}
 use Rattle.words.proofs.Tests.{clash, lt-or-ge}
 use Rattle.words.proofs.Ranges.{found, Found}
-use Rattle.words.proofs.Repeats.{Stands, Writes, writes-is, is-writes, Primitive, primitive-is, is-primitive}
+use Rattle.words.proofs.Repeats.{Folds, stands-folds, folds-stands, Writes, writes-is, is-writes, Primitive, primitive-is, is-primitive}
 use Rattle.words.proofs.Periods.{Period, Common, common, period-times}
 use Rattle.words_claims.specs.Claims.{root}
 
 module _ (x : List ℕ) (i : ℕ) where
-  -- the first q letters from i are the first d of them, over and over
-  abbrev pub Folds : ℕ → ℕ → Type 0
-  Folds d q = (k : ℕ) → k < q → letter x (i + k) ≡ letter x (i + k % d)
-
-  stands-folds : (d e : ℕ) → 1 ≤ d → Stands x i d e → Folds d (d * e)
-  stands-folds d e h s k l =
-      let whole : d * (k / d) + k % d ≡ k = div-add-mod k d in
-      let turns : k / d < e = lt-of-mul-lt-mul-left d (omega (arith, whole)) in
-      ap (letter x) (omega (arith, whole)) ∙ sym (s .1 (k / d) turns (k % d) (mod-lt k h))
-
-  folds-stands : (d e : ℕ) → 1 ≤ d → i + d * e ≤ suc (length x) → Folds d (d * e) → Stands x i d e
-  folds-stands d e h f g = (
-    f,
-    λ k l m lm.
-        let most : d * suc k ≤ d * e = mul-le-mul-left d l in
-        let next : d * suc k ≡ d * k + d = omega arith in
-        let rest : (d * k + m) % d ≡ m = mul-add-mod-self-left d k m ∙ mod-eq-of-lt lm in
-        sym (ap (letter x) (omega arith) ∙ g (d * k + m) (omega arith) ∙ ap (λ (v : ℕ). letter x (i + v)) rest),
-  )
-
   -- what writes p letters folds them
-  pub writes-folds : (p d : ℕ) → 1 ≤ d → Writes x i p d → Folds d p
-  writes-folds p d a w k l = stands-folds d (p / d) a (w .1) k (omega (arith, div-add-mod p d, w .0))
+  pub writes-folds : (p d : ℕ) → 1 ≤ d → Writes x i p d → Folds x i d p
+  writes-folds p d a w k l = stands-folds x i d (p / d) a (w .1) k (omega (arith, div-add-mod p d, w .0))
 
-  folds-writes : (p d : ℕ) → 1 ≤ d → d ∣ p → i + p ≤ suc (length x) → Folds d p → Writes x i p d
-  folds-writes p d a c f g =
+  folds-writes : (p d : ℕ) → d ∣ p → i + p ≤ suc (length x) → Folds x i d p → Writes x i p d
+  folds-writes p d c f g =
       let whole : d * (p / d) ≡ p = mul-div-cancel' d c in
-      (mod-eq-zero-of-dvd d c, folds-stands d (p / d) a (omega (arith, whole)) (λ k l. g k (omega (arith, whole))))
+      (mod-eq-zero-of-dvd d c, folds-stands x i d (p / d) (omega (arith, whole)) (λ k l. g k (omega (arith, whole))))
 
   -- every stretch that fits is itself, written once
   pub writes-self : (p : ℕ) → 1 ≤ p → i + p ≤ suc (length x) → Writes x i p p
-  writes-self p h f = folds-writes p p h (dvd-of-mod-eq-zero p (mod-self p)) f (λ k l. ap (λ (v : ℕ). letter x (i + v)) (sym (mod-eq-of-lt l)))
+  writes-self p h f = folds-writes p p (dvd-of-mod-eq-zero p (mod-self p)) f (λ k l. ap (λ (v : ℕ). letter x (i + v)) (sym (mod-eq-of-lt l)))
 
 module _ (x : List ℕ) (i p : ℕ) (h : 1 ≤ p) where
   sought : Found (writes x i p) (p - 1) 1 (root x i p)
@@ -77,7 +57,7 @@ module _ (x : List ℕ) (i p : ℕ) (h : 1 ≤ p) where
 
     -- what writes the root writes the motif
     pub root-primitive : Primitive x i (root x i p)
-    root-primitive d a b e s = omega (arith, root-least d a (folds-writes x i p d a (dvd-trans d inner (divides (root x i p) root-writes)) f folds), b)
+    root-primitive d a b e s = omega (arith, root-least d a (folds-writes x i p d (dvd-trans d inner (divides (root x i p) root-writes)) f folds), b)
       where
         inner : d ∣ root x i p
         inner = dvd-of-mod-eq-zero d e
@@ -106,7 +86,7 @@ module _ (x : List ℕ) (i p : ℕ) (h : 1 ≤ p) where
 
     -- a period of it that divides p writes the motif
     period-writes : (d : ℕ) → 1 ≤ d → d ∣ p → Period turn d → Writes x i p d
-    period-writes d a c per = folds-writes x i p d a c f folds
+    period-writes d a c per = folds-writes x i p d c f folds
       where
         folds : Folds x i d p
         folds k l =
@@ -134,7 +114,7 @@ module _ (x : List ℕ) (i p : ℕ) (h : 1 ≤ p) where
         let low : root x i p ≤ d = le-of-dvd a c in
         let fits : i + d ≤ suc (length x) = omega (arith, le-of-dvd h (divides d w)) in
         let g : Folds x i (root x i p) d = λ k l. writes-folds x i p (root x i p) root-some root-writes k (omega (arith, l, le-of-dvd h (divides d w))) in
-        let v : Writes x i d (root x i p) = folds-writes x i d (root x i p) root-some c fits g in
+        let v : Writes x i d (root x i p) = folds-writes x i d (root x i p) c fits g in
         ⊎-elim (λ l. absurd (prim (root x i p) root-some l (v .0) (v .1))) (λ l. omega arith) (lt-or-ge (root x i p) d)
 
     -- and the whole motif if and only if that is primitive

@@ -28,7 +28,7 @@ use Rattle.words_claims.proofs.Verdicts.{Outside, Inside, inside-or, in
 abbrev pub Says : List ℕ → ℕ → ℕ → ℕ → Claimed → Type 0
 -- it is a repeat of document 01
 Says x i p e Claimed.Yes = (length x ≤ most) × (repeats x i p e ≡ true)
--- it lies in the read, the motif is primitive, and stands c times in a row and no more; but it is no claim of these, or of one copy
+-- it lies in the read, and the motif is primitive and stands c times in a row and no more; but two copies or more, and so many, are not what is claimed
 Says x i p e (Claimed.Copies c) = (length x ≤ most) × Inside x i p e × (primitive x i p ≡ true) × (1 ≤ c) × (stands x i p c ≡ true) × (stands x i p (suc c) ≡ false) × (2 ≤ e → c ≢ e)
 -- it lies in the read, and the motif is the string of its first d bytes, which is shorter and primitive, written several times
 Says x i p e (Claimed.Shorter d) = (length x ≤ most) × Inside x i p e × (1 ≤ d) × (d < p) × (stretch x p i ≡ written (p / d) (stretch x d i)) × PrimitiveString (stretch x d i)

@@ -39,10 +39,11 @@ shownOf p (Claimed.Shorter d) = d
 shownOf p Claimed.Outside = 0
 shownOf p (Claimed.TooLong n) = 0
 
+-- how many bytes the part of the read has that the motif call hands back
 unfoldable pub motifLength : List ℕ → ℕ → ℕ → ℕ → ℕ
 motifLength x i p e = shownOf p (verdict x i p e)
 
--- the part of the read starts at this place, counted from 0: that of the claimed start, and the read's front where it is empty, ..
+-- it starts at this place, counted from 0: that of the claimed start, and the read's front where it is empty, ..
 unfoldable pub motifFrom : List ℕ → ℕ → ℕ → ℕ → ℕ
 motifFrom x i p e = cond (eqb (motifLength x i p e) 0) 0 (i - 1)
 
