@@ -7,8 +7,10 @@
      test tables TABLES < READS                every read's tables at the widths that the file TABLES has
      test calls                                what crates/run_calls prints, and the calls on empty slices that are null
    Besides, no answer but two has a second value, in `indexes` each period is looked up, in `lists` each line is claimed, also with a copy more or less, and its motif taken, in `runs` each is looked at base by base, in `logs` the log is walked by the reader, and in
-   `tables` the replay of the read's own log must give the same table; what fails prints a line that no stored output has. */
+   `tables` the replay of the read's own log must give the same table; what fails prints a line that no stored output has. All runs on a thread with as
+   small a stack as docs/C.md says will do: a call that takes more ends the program. */
 #include "sorunggyeo.h"
+#include <pthread.h>
 #include <stdio.h>
 #include <stdlib.h>
 #include <string.h>
@@ -482,7 +484,7 @@ static void null_calls(void)
     expect(!sorunggyeo_lookup(NULL, 0, 0).found, "an empty index has no entry");
 }
 
-int main(int argc, char **argv)
+static int run(int argc, char **argv)
 {
     const char *what = argc > 1 ? argv[1] : "";
     size_t n;
@@ -510,4 +512,24 @@ int main(int argc, char **argv)
         return 1;
     }
     return 0;
+}
+
+enum { WORKER = 32 * 1024 };
+struct job { int argc; char **argv; int status; };
+
+static void *work(void *given)
+{
+    struct job *job = given;
+    job->status = run(job->argc, job->argv);
+    return NULL;
+}
+
+int main(int argc, char **argv)
+{
+    struct job job = {argc, argv, 1};
+    pthread_attr_t attr;
+    pthread_t thread;
+    if (pthread_attr_init(&attr) || pthread_attr_setstacksize(&attr, WORKER) || pthread_create(&thread, &attr, work, &job)) return 1;
+    pthread_join(thread, NULL);
+    return job.status;
 }

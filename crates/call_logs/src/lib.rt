@@ -13,6 +13,7 @@ use call_moves::room;
 use call_moves::write_moves;
 use read_edges::MOST;
 use slots::wide;
+use step3_lists::pass;
 use step5_queue::push_all;
 use steps::begin;
 use steps::move_on;
@@ -24,19 +25,21 @@ fn write_log(read: &[u8], out: &mut [u16]) -> usize
     ensures { λ r. ⌜ Written (now (read .entry)) (now (out .entry)) (now (out .exit)) r ⌝ }
 {
     let n = read.len() as u16;
-    let mut a = [[0u16; 1000]; 13];
+    let mut a = [[0u16; 1000]; 12];
     let mut small = [0u64; 17];
+    let mut found = [0u64; 17];
     begin(&mut a, &mut small, read, n);
     let end = n / 2;
     let mut w: u16 = 1;
     let mut k: usize = 0;
     while w < end {
+        pass(&mut found, &mut a, w);
         let m = push_all(&mut a, &mut small, n);
         if m == 0 {
             return k;
         }
         write_moves(out, k, &a, w, m);
-        move_on(&mut a, &mut small, n, m);
+        move_on(&mut a, &mut small, n, w, m);
         k += wide(m);
         w += 1;
     }

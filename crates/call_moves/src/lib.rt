@@ -39,7 +39,7 @@ pub fn room(n: u16) -> usize
 }
 
 // the moves of the first m positions of the queue, each under the name of its right neighbour, behind the k moves that are there
-pub fn write_moves(out: &mut [u16], k: usize, a: &[[u16; 1000]; 13], w: u16, m: u16)
+pub fn write_moves(out: &mut [u16], k: usize, a: &[[u16; 1000]; 12], w: u16, m: u16)
     requires { ⌜ (m ≤ 1000) × Inside (row (now a) QUE) m × (moveSize * k + moveSize * m ≤ length (now out)) ⌝ }
     ensures { λ r. ⌜ now (out .exit) ≡ stored (now (out .entry)) (moveSize * k) (movesTo w (row (now (a .entry)) NAME) (row (now (a .entry)) QUE) m) ⌝ }
 {

@@ -12,6 +12,7 @@ ghost use Rattle.words.specs.Calls.{tableAnswer, tableLeaves};
 use read_edges::MOST;
 use read_edges::copy_names;
 use step1_rows::NAME;
+use step3_lists::pass;
 use steps::begin;
 use steps::onward;
 use words::Tabled;
@@ -22,11 +23,13 @@ fn write_table(out: &mut [u16], read: &[u8], w: u16)
     ensures { λ r. ⌜ now (out .exit) ≡ table (now (read .entry)) w ++ drop (length (now (read .entry))) (now (out .entry)) ⌝ }
 {
     let n = read.len() as u16;
-    let mut a = [[0u16; 1000]; 13];
+    let mut a = [[0u16; 1000]; 12];
     let mut small = [0u64; 17];
+    let mut found = [0u64; 17];
     begin(&mut a, &mut small, read, n);
     let mut v: u16 = 1;
     while v < w {
+        pass(&mut found, &mut a, v);
         v = onward(&mut a, &mut small, n, v, w);
     }
     copy_names(out, &a[NAME], n);

@@ -4,7 +4,7 @@ use Prim.Native.Nat.{ℕ, suc, _+_, _-_, _≤_, _<_}
 use mathlib.Core.Path.{_≡_, refl, sym, ap, subst, _∙_}
 use mathlib.Core.Logic.{⊎-elim, _≢_}
 use mathlib.Core.Bool.{Bool, true, false}
-use mathlib.Core.List.{List, [], _++_}
+use mathlib.Core.List.{List, [], _∷_, _++_}
 use native.Mathlib.Omega.{arith}
 use native.Mathlib.Nat.{mul-le-mul-left}
 use lib.ListN.{length, length-append}
@@ -25,7 +25,11 @@ use Rattle.words_runs.proofs.RunLayout.{run-some}
 use Rattle.words_runs.proofs.Lists.{runs-at-none}
 use Rattle.row_cells.specs.Listing.{Listing, Adds}
 use Rattle.slots.specs.Slots.{view}
-use Rattle.step1_rows.specs.Rows.{row, NAME, DIST}
+use Rattle.step1_rows.specs.Rows.{row, among, Only, NAME, DIST, HEAD, AFTER}
+use Rattle.step1_rows.proofs.Laws.{only-row}
+use Rattle.step2_bits.specs.Sets.{Empty, Where}
+use Rattle.step3_lists.specs.Filed.{Marked}
+use Rattle.step3_lists.proofs.Passing.{marked-where}
 use Rattle.refine.proofs.Links.{gap-nearest}
 use Rattle.steps.specs.Held.{Held, Stands}
 use Rattle.steps.specs.Walk.{Onward}
@@ -48,6 +52,11 @@ held-near n a small H p l = record { some = l; long = H .long .each 3 (omega ari
         let t = view n (row a NAME) in
         let m : i ≤ length t = omega (arith, h, held-long n a small H) in
         omega (arith, gap-nearest t i m .high, H .links .next i b m, e, held-long n a small H, H .few)
+
+-- the places that were marked while a list was passed
+pub passed-where : (a b : List (List ℕ)) (p : ℕ) (f g : List ℕ) → Only (HEAD ∷ AFTER ∷ []) a b → Empty f → Marked (row a DIST) p f g → Where (row b DIST) p g
+unfolding among
+passed-where a b p f g O E M = rw (only-row (HEAD ∷ AFTER ∷ []) a b DIST O refl) (marked-where (row a DIST) p f g E M)
 
 -- a row takes some numbers
 row-some : (runs : Bool) → 1 ≤ rowSize runs

@@ -15,7 +15,7 @@ ghost use Rattle.call_widths.specs.Looks.{looked, seenAt};
 use call_periods::rows_at;
 use read_edges::top_of;
 use step1_rows::DIST;
-use step3_lists::starts;
+use step3_lists::pass;
 use steps::begin;
 use steps::onward;
 
@@ -43,7 +43,7 @@ fn look_widths(out: &mut [u16], read: &[u8], runs: bool, mode: u32) -> Tally
         × (r .periods ≡ seenAt (now (read .entry)) runs mode) ⌝ }
 {
     let n = read.len() as u16;
-    let mut a = [[0u16; 1000]; 13];
+    let mut a = [[0u16; 1000]; 12];
     let mut small = [0u64; 17];
     let mut found = [0u64; 17];
     let mut count = [0u16; 1000];
@@ -53,7 +53,7 @@ fn look_widths(out: &mut [u16], read: &[u8], runs: bool, mode: u32) -> Tally
     let mut rows: usize = 0;
     let mut periods: usize = 0;
     while p <= top {
-        starts(&mut found, &a, p);
+        pass(&mut found, &mut a, p);
         let more = rows_at(out, &mut count, &mut found, &a[DIST], runs, mode, p, rows);
         periods = counted(periods, rows, more);
         rows = more;

@@ -5,16 +5,16 @@ ghost use mathlib.Core.Path.{_≡_};
 ghost use Prim.Native.Nat.{_≤_, _<_};
 ghost use lib.ListN.{length};
 ghost use Rattle.words.specs.Steps.{stepWidth, stepTable, stepSmalls, stepCount};
-ghost use Rattle.step1_rows.specs.Rows.{NAME, SIZE, PREV, DIST, HEAD, AFTER, BEFORE};
+ghost use Rattle.step1_rows.specs.Rows.{NAME, SIZE, PREV, DIST, HEAD, AFTER};
 ghost use Rattle.partition.specs.Stand.{rowsOf, Good, Of, groups, smallOnes};
 ghost use Rattle.partition.specs.Kept.{KeptAs};
 use step1_rows::AFTER;
-use step1_rows::BEFORE;
 use step1_rows::DIST;
 use step1_rows::HEAD;
 use step1_rows::NAME;
 use step1_rows::PREV;
 use step1_rows::SIZE;
+use step3_lists::pass;
 use steps::advance;
 use steps::begin;
 
@@ -27,7 +27,6 @@ pub struct Partition {
     pub dist: [u16; 1000],
     pub head: [u16; 1000],
     pub after: [u16; 1000],
-    pub before: [u16; 1000],
     pub small: [u64; 17],
 }
 
@@ -38,7 +37,7 @@ pub struct Stepped {
 }
 
 // the rows of a partition, and scratch of zeros
-fn rows_of(p: Partition) -> [[u16; 1000]; 13]
+fn rows_of(p: Partition) -> [[u16; 1000]; 12]
     ensures { λ r. ⌜ r ≡ rowsOf p ⌝ }
 {
     let name = p.name;
@@ -47,7 +46,6 @@ fn rows_of(p: Partition) -> [[u16; 1000]; 13]
     let dist = p.dist;
     let head = p.head;
     let after = p.after;
-    let before = p.before;
     let blank = [0u16; 1000];
     [
         name,
@@ -56,7 +54,6 @@ fn rows_of(p: Partition) -> [[u16; 1000]; 13]
         dist,
         head,
         after,
-        before,
         blank,
         blank,
         blank,
@@ -67,7 +64,7 @@ fn rows_of(p: Partition) -> [[u16; 1000]; 13]
 }
 
 // the partition that the rows hold
-fn kept(a: &[[u16; 1000]; 13], small: [u64; 17], n: u16, width: u16) -> Partition
+fn kept(a: &[[u16; 1000]; 12], small: [u64; 17], n: u16, width: u16) -> Partition
     ensures { λ r. ⌜ KeptAs (now (a .entry)) small n width r ⌝ }
 {
     let name = a[NAME];
@@ -76,7 +73,6 @@ fn kept(a: &[[u16; 1000]; 13], small: [u64; 17], n: u16, width: u16) -> Partitio
     let dist = a[DIST];
     let head = a[HEAD];
     let after = a[AFTER];
-    let before = a[BEFORE];
     Partition {
         n,
         width,
@@ -86,7 +82,6 @@ fn kept(a: &[[u16; 1000]; 13], small: [u64; 17], n: u16, width: u16) -> Partitio
         dist,
         head,
         after,
-        before,
         small,
     }
 }
@@ -100,7 +95,7 @@ impl Partition {
         ensures { λ r. ⌜ Of (now (read .entry)) 1 r ⌝ }
     {
         let n = read.len() as u16;
-        let mut a = [[0u16; 1000]; 13];
+        let mut a = [[0u16; 1000]; 12];
         let mut small = [0u64; 17];
         begin(&mut a, &mut small, read, n);
         kept(&a, small, n, 1)
@@ -121,7 +116,9 @@ impl Partition {
         }
         let mut small = self.small;
         let mut a = rows_of(self);
-        let m = advance(&mut a, &mut small, n);
+        let mut found = [0u64; 17];
+        pass(&mut found, &mut a, w);
+        let m = advance(&mut a, &mut small, n, w);
         self = kept(&a, small, n, w + 1);
         Stepped {
             partition: self,

@@ -63,6 +63,19 @@ module _ (t : List ℕ) (i : ℕ) where
             end = λ z j l m. other j l (omega arith);
           })
 
+  -- after the last position there is none
+  pub gap-beyond : length t < i → gap t i ≡ 0
+  unfolding gap
+  gap-beyond l = ⊎-elim (λ e. absurd (omega (arith, leb-true (i + ahead) (length t) e))) (λ e. rw e) (either (leb (i + ahead) (length t)))
+
+  -- a position of the group that lies g ahead is the next, or the next is nearer
+  pub gap-reach : (g : ℕ) → 1 ≤ g → i + g ≤ length t → at t (i + g) ≡ at t i → (1 ≤ gap t i) × (gap t i ≤ g)
+  gap-reach g a b e =
+      let G = gap-nearest (omega arith) in (
+        ⊎-elim (λ l. l) (λ l. absurd (G .end (omega arith) (i + g) (omega arith) b e)) (lt-or-ge 0 (gap t i)),
+        ⊎-elim (λ l. absurd (G .free (i + g) (omega arith) (omega arith) e)) (λ l. l) (lt-or-ge g (gap t i)),
+      )
+
   -- there is only one such distance
   nearest-le : (d e : ℕ) → Nearest t i d → Nearest t i e → d ≤ e
   nearest-le d e N G = ⊎-elim (λ l. absurd (less l (either (eqb e 0)))) (λ l. l) (lt-or-ge e d)

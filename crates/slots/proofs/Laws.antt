@@ -5,7 +5,7 @@ use mathlib.Core.Logic.{⊎-elim, _≢_}
 use mathlib.Core.List.{List}
 use native.Mathlib.Omega.{arith}
 use lib.ListN.{length, length-set, getD, take}
-use lib.Seq.{getD-set-same, getD-set-other, getD-take, length-take-le, ext-getD}
+use lib.Seq.{getD-set-same, getD-set-other, set-getD, set-set, set-comm, getD-take, length-take-le, ext-getD}
 use borrow.Author.Tests.{lt-ltb, le-ltb}
 use Rattle.words.specs.Reads.{at}
 use Rattle.words.proofs.Tests.{lt-or-ge}
@@ -23,6 +23,19 @@ module _ (a : List ℕ) (i v : ℕ) where
   pub put-other : (j : ℕ) → 1 ≤ i → 1 ≤ j → j ≢ i → at (put a i v) j ≡ at a j
   unfolding put at
   put-other j h l ne = getD-set-other a (i - 1) (j - 1) v 0 (λ e. ne (omega arith))
+
+  -- the last of two stores at one place stands, a store of what stands there is none, and two at two places may be made in any order
+  pub put-again : (w : ℕ) → put (put a i v) i w ≡ put a i w
+  unfolding put
+  put-again w = set-set a (i - 1) v w
+
+  pub put-held : at a i ≡ v → put a i v ≡ a
+  unfolding put at
+  put-held e = rw (← e) (set-getD a (i - 1) 0)
+
+  pub put-swap : (j w : ℕ) → 1 ≤ i → 1 ≤ j → j ≢ i → put (put a i v) j w ≡ put (put a j w) i v
+  unfolding put
+  put-swap j w h l ne = set-comm a (i - 1) (j - 1) v w (λ e. ne (omega arith))
 
 -- a store that may be none
 module _ (a : List ℕ) (j v : ℕ) where

@@ -14,7 +14,7 @@ use Rattle.slots.proofs.Laws.{put-length}
 use Rattle.step1_rows.specs.Rows.{row, putAt, Long, among, inside, Only}
 
 module _ (a : List (List ℕ)) (r i v : ℕ) where
-  pub row-same : Long a → r < 13 → row (putAt a r i v) r ≡ put (row a r) i v
+  pub row-same : Long a → r < 12 → row (putAt a r i v) r ≡ put (row a r) i v
   unfolding putAt row
   row-same L h = getD-set-same a r _ [] (rw (L .rows) h)
 
@@ -29,7 +29,7 @@ module _ (a : List (List ℕ)) (r i v : ℕ) where
   pub long-put : Long a → Long (putAt a r i v)
   long-put L = record { rows = rows-put ∙ L .rows; each = each }
     where
-      each : (s : ℕ) → s < 13 → length (row (putAt a r i v) s) ≡ 1000
+      each : (s : ℕ) → s < 12 → length (row (putAt a r i v) s) ≡ 1000
       each s h =
           ⊎-elim
           (λ e. let d = eqb-true r s e in rw (← d) (rw (row-same L (rw d h)) (put-length (row a r) i v ∙ L .each r (rw d h))))

@@ -27,26 +27,23 @@ HEAD = 4
 abbrev pub AFTER : ℕ
 AFTER = 5
 
-abbrev pub BEFORE : ℕ
-BEFORE = 6
-
 abbrev pub QUE : ℕ
-QUE = 7
+QUE = 6
 
 abbrev pub PART : ℕ
-PART = 8
+PART = 7
 
 abbrev pub TAIL : ℕ
-TAIL = 9
+TAIL = 8
 
 abbrev pub REST : ℕ
-REST = 10
+REST = 9
 
 abbrev pub MANY : ℕ
-MANY = 11
+MANY = 10
 
 abbrev pub TOUCHED : ℕ
-TOUCHED = 12
+TOUCHED = 11
 
 -- ---- reading and writing
 
@@ -57,10 +54,10 @@ row a r = getD a r []
 unfoldable pub putAt : List (List ℕ) → ℕ → ℕ → ℕ → List (List ℕ)
 putAt a r i v = set a r (put (row a r) i v)
 
--- there are 13 rows of 1,000 places
+-- there are 12 rows of 1,000 places
 pub record Long (a : List (List ℕ)) : Type 0 where
-  pub rows : length a ≡ 13
-  pub each : (r : ℕ) → r < 13 → length (row a r) ≡ 1000
+  pub rows : length a ≡ 12
+  pub each : (r : ℕ) → r < 12 → length (row a r) ≡ 1000
 
 -- ---- rows that stay
 

@@ -1,5 +1,5 @@
-pub mod Ranks
-pub mod Stores
-pub mod Changed
-pub mod Rows
-pub mod Walks
+pub mod Chains
+pub mod Filing
+pub mod Waits
+pub mod Changing
+pub mod Passing

@@ -1,4 +1,4 @@
 pub mod Lists
-pub mod Listed
-pub mod Stores
 pub mod Walk
+pub mod Waits
+pub mod Filed

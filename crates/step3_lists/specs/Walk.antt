@@ -1,11 +1,11 @@
--- The walk along after, from a link h on.
-use mathlib.Core.List.{List, [], _∷_}
+-- The places on a list, by its links.
+use Prim.Native.Nat.{ℕ, zero, suc, _-_}
 use mathlib.Core.Bool.{cond}
-use Prim.Native.Nat.{ℕ, zero, suc}
+use mathlib.Core.List.{List, [], _∷_}
 use lib.Dec.{ltb}
 use Rattle.words.specs.Reads.{at}
 
--- the places that the walk from h visits, in at most f steps
+-- the places that a walk from h on comes to, 0 for none, in at most f steps
 unfoldable pub walk : List ℕ → ℕ → ℕ → List ℕ
 walk after zero h = []
-walk after (suc f) h = cond (ltb 0 h) (h ∷ walk after f (at after h)) []
+walk after (suc f) h = cond (ltb 0 h) (h ∷ walk after f (at after h - 1)) []

@@ -9,7 +9,6 @@ use native.Mathlib.Omega.{arith}
 use native.Mathlib.Nat.{eq-or-lt-of-le}
 use native.Mathlib.Decide.{ℕ-discrete}
 use lib.ListN.{length, replicate}
-use lib.Seq.{set-getD}
 use lib.Dec.{eqb}
 use borrow.Author.Tests.{eq-eqb, ne-eqb}
 use Rattle.words.specs.Range.{bit}
@@ -20,18 +19,18 @@ use Rattle.words.proofs.Sums.{count-none, count-le}
 use Rattle.words.proofs.Groups.{table-length, table-least}
 use Rattle.words.proofs.Small.{all-small-at, all-small-length}
 use Rattle.slots.specs.Slots.{put, putSome}
-use Rattle.slots.proofs.Laws.{some-none, some-length, some-same, some-other, view-is}
+use Rattle.slots.proofs.Laws.{put-held, some-none, some-length, some-same, some-other, view-is}
 use Rattle.refine.specs.Phases.{Clean}
 use Rattle.refine.proofs.Links.{Before, nearest-gap, before-back}
 use Rattle.read_letters.specs.Seen.{Latest, Seen}
 use Rattle.read_letters.proofs.Kept.{seen-start}
 use Rattle.read_letters.proofs.Joins.{last-joined, last-free, last-none}
-use Rattle.step1_rows.specs.Rows.{row, putAt, Long, NAME, SIZE, PREV, DIST, HEAD, AFTER, BEFORE, TAIL}
+use Rattle.step1_rows.specs.Rows.{row, putAt, Long, NAME, SIZE, PREV, DIST, HEAD, AFTER, TAIL}
 use Rattle.step1_rows.proofs.Laws.{row-same, row-other, long-put}
 use Rattle.step2_bits.specs.Sets.{flags, Sound, Empty}
 use Rattle.step2_bits.proofs.Flags.{flags-length}
-use Rattle.step3_lists.specs.Listed.{Listed}
-use Rattle.step3_lists.proofs.Changed.{lists-none}
+use Rattle.step3_lists.specs.Filed.{Listed}
+use Rattle.step3_lists.proofs.Filing.{lists-none}
 use Rattle.step4_fresh.specs.Fresh.{Blank, Joined, Began}
 use Rattle.step4_fresh.proofs.Filling.{Filled, filled-none, filled-more, Near, sizeTo, size-to-above, counted-more}
 
@@ -48,15 +47,10 @@ pub record Begun (x seen : List ℕ) (a : List (List ℕ)) (small : List ℕ) (i
   pub tails : Clean (row a TAIL)
   pub sound : Sound small
 
--- what is there already may be stored
-put-kept : (l : List ℕ) (i v : ℕ) → at l i ≡ v → put l i v ≡ l
-unfolding put at
-put-kept l i v e = rw (← e) (set-getD l (i - 1) 0)
-
 -- no position is done
 pub begun-start : (a : List (List ℕ)) → Blank a → (x small : List ℕ) → Sound small → Empty (flags small) → Begun x (replicate 256 0) a small 0
 begun-start a B x small S E =
-    let clean : (r : ℕ) → r < 13 → Clean (row a r) = λ r h. record { long = B .long .each r h; none = λ i l m. B .none r i h l m } in
+    let clean : (r : ℕ) → r < 12 → Clean (row a r) = λ r h. record { long = B .long .each r h; none = λ i l m. B .none r i h l m } in
     record {
       long = B .long;
       names = filled-none _ _ (clean NAME (omega arith));
@@ -66,9 +60,10 @@ begun-start a B x small S E =
       counted = λ s l m. B .none SIZE s (omega arith) l m ∙ sym (count-none (λ j. eqb (at (table x 1) j) s) 0 1 (λ k c d. absurd (omega arith)));
       met = seen-start x;
       lists =
-          lists-none _ _ _ _ (B .long .each DIST (omega arith)) (B .long .each HEAD (omega arith)) (B .long .each AFTER (omega arith)) (B .long .each BEFORE (omega arith))
+          lists-none _ _ _ (B .long .each DIST (omega arith)) (B .long .each HEAD (omega arith)) (B .long .each AFTER (omega arith))
           (λ i p. B .none DIST i (omega arith) (p .0) (p .1))
-          (λ d p. B .none HEAD d (omega arith) (p .0) (p .1));
+          (λ i p. B .none HEAD i (omega arith) (p .0) (p .1))
+          (λ i p. B .none AFTER i (omega arith) (p .0) (p .1));
       tails = clean TAIL (omega arith);
       sound = S;
     }
@@ -182,7 +177,7 @@ module _ (x seen seen′ : List ℕ) (a : List (List ℕ)) (small : List ℕ) (i
         let s = at (row a NAME) l in
         let w = named-within in
         let flag = B .flagged .beyond (i + 1) (omega arith) (omega arith) ∙ sym (ap bit (ne-eqb s (i + 1) (λ e. omega (arith, e, w .1)))) in
-        begun-more a′ small s named (w .0) (omega (arith, w .1)) J (B .sound) (sym (put-kept (flags small) (i + 1) (bit (eqb s (i + 1))) flag))
+        begun-more a′ small s named (w .0) (omega (arith, w .1)) J (B .sound) (sym (put-held (flags small) (i + 1) (bit (eqb s (i + 1))) flag))
 
   -- the next position is the first of its group
   pub begun-first : (small′ : List ℕ) → l ≡ 0 → Sound small′ → flags small′ ≡ put (flags small) (i + 1) 1
@@ -202,10 +197,10 @@ module _ (x seen seen′ : List ℕ) (a : List (List ℕ)) (small : List ℕ) (i
         long = long-put f SIZE j 1 lf;
         name = row-other f SIZE j 1 NAME refl ∙ row-same a NAME j j (B .long) (omega arith);
         size = row-same f SIZE j 1 lf (omega arith) ∙ rw (row-other a NAME j j SIZE refl, zero) refl;
-        prev = kept PREV refl refl ∙ sym (put-kept (row a PREV) j l (B .prevs .beyond j (omega arith) (omega arith) ∙ sym none));
+        prev = kept PREV refl refl ∙ sym (put-held (row a PREV) j l (B .prevs .beyond j (omega arith) (omega arith) ∙ sym none));
         dist = kept DIST refl refl ∙ sym (some-none (row a DIST) l (j - l) none);
         tail = kept TAIL refl refl;
-        lists = rw (kept DIST refl refl, kept HEAD refl refl, kept AFTER refl refl, kept BEFORE refl refl) (B .lists);
+        lists = rw (kept DIST refl refl, kept HEAD refl refl, kept AFTER refl refl) (B .lists);
       })
       S (flag ∙ rw (eq-eqb j j refl) refl)
 

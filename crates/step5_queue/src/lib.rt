@@ -19,7 +19,7 @@ use step1_rows::store_wide;
 use step2_bits::take_least;
 
 // the position left of j is put behind the k that are there, if there is one
-fn push_left(a: &mut [[u16; 1000]; 13], j: usize, k: usize) -> usize
+fn push_left(a: &mut [[u16; 1000]; 12], j: usize, k: usize) -> usize
     requires { ⌜ Long (now a) × (j ≤ 1000) × (k + length (left j) ≤ 1000) ⌝ }
     ensures { λ r. ⌜ Grown (now (a .entry)) (now (a .exit)) k r (left j) ⌝ }
 {
@@ -31,7 +31,7 @@ fn push_left(a: &mut [[u16; 1000]; 13], j: usize, k: usize) -> usize
 }
 
 // the positions left of those of the group s are put behind the `had` that are there; returns how many there are then
-fn push_group(a: &mut [[u16; 1000]; 13], s: usize, had: usize) -> usize
+fn push_group(a: &mut [[u16; 1000]; 12], s: usize, had: usize) -> usize
     requires { ⌜ ((t : List ℕ) × Group t (now a) s had) ⌝ }
     ensures { λ r. ⌜ ((t : List ℕ) → Group t (now (a .entry)) s had → Grown (now (a .entry)) (now (a .exit)) had r (groupOf t s)) ⌝ }
 {
@@ -48,7 +48,7 @@ fn push_group(a: &mut [[u16; 1000]; 13], s: usize, had: usize) -> usize
 }
 
 // the whole queue is put at the front of its row; returns its length
-pub fn push_all(a: &mut [[u16; 1000]; 13], small: &mut [u64; 17], n: u16) -> u16
+pub fn push_all(a: &mut [[u16; 1000]; 12], small: &mut [u64; 17], n: u16) -> u16
     requires { ⌜ (n ≤ 1000) × Long (now a) × Least (view n (row (now a) NAME)) × Gaps (view n (row (now a) NAME)) (row (now a) DIST) × FlagsOf (view n (row (now a) NAME)) (flags (now small)) × Sound (now small) ⌝ }
     ensures { λ r. ⌜ Long (now (a .exit)) × Only (QUE ∷ []) (now (a .entry)) (now (a .exit))
         × (view r (row (now (a .exit)) QUE) ≡ queue (view n (row (now (a .entry)) NAME)) (view n (flags (now (small .entry)))))

@@ -1,27 +1,16 @@
 -- What is read after the stores of one move. Assumes nothing.
-use Prim.Native.Nat.{ℕ, _+_, _-_, _≤_}
+use Prim.Native.Nat.{ℕ, _+_, _≤_}
 use mathlib.Core.Path.{_≡_}
 use mathlib.Core.Logic.{⊎-elim, _≢_}
 use mathlib.Core.List.{List}
 use native.Mathlib.Omega.{arith}
 use lib.ListN.{length}
-use lib.Seq.{set-getD, set-set}
 use borrow.Author.Tests.{lt-ltb, le-ltb}
 use Rattle.words.specs.Reads.{at}
 use Rattle.words.proofs.Tests.{lt-or-ge}
 use Rattle.slots.specs.Slots.{put}
 use Rattle.slots.proofs.Laws.{put-length, put-same, put-other}
 use Rattle.step6_leave.specs.Links.{putAhead, joined}
-
--- the last of two stores at one place stands, and a store of what stands there is none
-module _ (a : List ℕ) (i v : ℕ) where
-  pub put-again : (w : ℕ) → put (put a i v) i w ≡ put a i w
-  unfolding put
-  put-again w = set-set a (i - 1) v w
-
-  pub put-held : at a i ≡ v → put a i v ≡ a
-  unfolding put at
-  put-held e = rw (← e) (set-getD a (i - 1) 0)
 
 module _ (a : List ℕ) (i d v : ℕ) where
   pub ahead-is : 1 ≤ d → putAhead a i d v ≡ put a (i + d) v
@@ -48,3 +37,6 @@ joined-some e d h = rw (lt-ltb 0 d h)
 pub joined-none : (e d : ℕ) → d ≤ 0 → joined e d ≡ 0
 unfolding joined
 joined-none e d h = rw (le-ltb 0 d h)
+
+pub joined-most : (e d m : ℕ) → e + d ≤ m → joined e d ≤ m
+joined-most e d m h = ⊎-elim (λ l. rw (joined-some e d l) h) (λ l. rw (joined-none e d l) (omega arith)) (lt-or-ge 0 d)

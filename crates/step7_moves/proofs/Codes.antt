@@ -97,7 +97,7 @@ module _ {t Q : List ℕ} {n : ℕ} (K : Known t Q n) where
   codes-length (suc q) = put-length (codes t u Q q) (at Q (suc q)) (1000 + at u (at Q (suc q))) ∙ codes-length q
 
   -- a position that has moved has its new name, above 1,000, and any other its old name
-  codes-at : (q j : ℕ) → q ≤ length Q → 1 ≤ j → (Past Q q j × (at (codes t u Q q) j ≡ 1000 + at u j)) ⊎ ((Past Q q j → ⊥) × (at (codes t u Q q) j ≡ at t j))
+  pub codes-at : (q j : ℕ) → q ≤ length Q → 1 ≤ j → (Past Q q j × (at (codes t u Q q) j ≡ 1000 + at u j)) ⊎ ((Past Q q j → ⊥) × (at (codes t u Q q) j ≡ at t j))
   unfolding codes
   codes-at zero j b a = inr (λ w. omega (arith, w .1, w .2), refl)
   codes-at (suc q) j b a =
@@ -122,7 +122,7 @@ module _ {t Q : List ℕ} {n : ℕ} (K : Known t Q n) where
   name-some j a b = next-name t Q (K .least) (K .lined) j a b .0
 
   -- what has the code of a new name has moved, and has that name
-  codes-moved : (q j v : ℕ) → q ≤ length Q → 1 ≤ j → j ≤ length t → 1 ≤ v → at (codes t u Q q) j ≡ 1000 + v → Past Q q j × (at u j ≡ v)
+  pub codes-moved : (q j v : ℕ) → q ≤ length Q → 1 ≤ j → j ≤ length t → 1 ≤ v → at (codes t u Q q) j ≡ 1000 + v → Past Q q j × (at u j ≡ v)
   codes-moved q j v b c d h e =
       ⊎-elim (λ w. (w .0, omega (arith, e, w .1))) (λ w. absurd (omega (arith, e, w .1, K .least .high j c d, K .few, K .long))) (codes-at q j b c)
 

@@ -1,6 +1,6 @@
 -- One more position of S has moved: the links by the codes, the parts, and the least positions left. Assumes nothing.
 use Prim.Native.Nat.{ℕ, suc, _+_, _-_, _≤_, _<_}
-use mathlib.Core.Path.{_≡_, refl, sym, _∙_}
+use mathlib.Core.Path.{_≡_, refl, sym, ap, _∙_}
 use mathlib.Core.Logic.{⊎-elim, _≢_, by-cases}
 use mathlib.Core.List.{List, [], _∷_}
 use native.Mathlib.Decide.{ℕ-discrete}
@@ -8,12 +8,15 @@ use native.Mathlib.Omega.{arith}
 use lib.ListN.{length}
 use borrow.Author.Tests.{lt-ltb, le-ltb}
 use Rattle.words.specs.Reads.{at}
+use Rattle.words.specs.Groups.{gap}
 use Rattle.words.proofs.Tests.{lt-or-ge}
 use Rattle.slots.specs.Slots.{put}
 use Rattle.slots.proofs.Laws.{put-same, put-other}
 use Rattle.step1_rows.specs.Rows.{row, putAt, Long, among, Only, SIZE, PREV, DIST, QUE, PART, TAIL, REST, MANY, TOUCHED}
 use Rattle.step1_rows.proofs.Laws.{long-put, only-none, only-put, only-trans}
-use Rattle.step3_lists.specs.Listed.{Redone}
+use Rattle.step3_lists.specs.Waits.{WaitingFor}
+use Rattle.step3_lists.specs.Filed.{Changed}
+use Rattle.step3_lists.proofs.Changing.{waiting-heads}
 use Rattle.refine.specs.Refine.{nextOf}
 use Rattle.refine.specs.Links.{back}
 use Rattle.refine.specs.Leaving.{Known}
@@ -23,13 +26,14 @@ use Rattle.step6_leave.specs.Gone.{Leavable, restAfter, Gone, begunAt, countedA
 use Rattle.step7_moves.specs.Relink.{codes, Place}
 use Rattle.step7_moves.specs.Parted.{Next, Split, Listing, PartedTo, Stepped}
 use Rattle.step7_moves.specs.Moving.{Lead, MovedTo}
-use Rattle.step7_moves.proofs.OneMove.{link-back, link-ahead, link-reach, cut-last, prev-on, dist-on, linked-move}
+use Rattle.step7_moves.proofs.OneMove.{gap-behind, gap-over, link-back, link-ahead, link-reach, prev-on, dist-on, linked-move}
 use Rattle.step7_moves.proofs.Codes.{lead-other, lead-before, lead-next, codes-length, codes-rest, codes-place, lead-first}
 use Rattle.step7_moves.proofs.Prior.{past-inside, Alone, next-low, next-high, group-low, group-high, group-most, next-other, alone-first, alone-begin, alone-back, tail-none, join-below, join-back}
+use Rattle.step7_moves.proofs.Late.{late}
 use Rattle.step7_moves.proofs.Parted.{part-place, many-few, tail-split, split-less, groups-first, groups-later, parted-begin, parted-join}
-use Rattle.step7_moves.proofs.Stepped.{putRow, row-put, out-row, out-dist, stepped-begin, stepped-join}
+use Rattle.step7_moves.proofs.Stepped.{putRow, row-put, out-row, out-waits, begun-waits, counted-waits, stepped-begin, stepped-join}
 
-module _ {t S : List ℕ} {n s h g i k : ℕ} {o a : List (List ℕ)} (K : Known t S n) (M : MovedTo t S n s h g o a) (X : Next t S s i k) where
+module _ {t S : List ℕ} {n w s h g i k : ℕ} {o a : List (List ℕ)} (K : Known t S n) (M : MovedTo t S n w s h g o a) (X : Next t S s i k) where
   abbrev u : List ℕ
   u = nextOf t S
 
@@ -52,14 +56,34 @@ module _ {t S : List ℕ} {n s h g i k : ℕ} {o a : List (List ℕ)} (K : Known
       let d = link-ahead place (M .links) c-few in
       record {
         long = M .long;
-        lists = M .lists;
+        heads = waiting-heads a (M .waits);
         named = (group-low K X, group-most K X);
         low = next-low K X;
         back = b;
         ahead = omega (arith, c-few);
-        some = λ l. omega (arith, link-reach place (M .links) c-few l);
         over = λ l. omega (arith, link-reach place (M .links) c-few l, c-few);
       }
+
+  -- ---- who waits
+
+  -- the codes once i has moved
+  moved-codes : codes t u S (suc s) ≡ put c i (1000 + at u i)
+  unfolding codes
+  moved-codes = rw (X .is) refl
+
+  -- no distance that they give is above the one at the next width
+  later : (j : ℕ) → 1 ≤ j → 1 ≤ gap u j → gap (put c i (1000 + at u i)) j ≤ gap u j
+  later j l m = rw moved-codes at (late K j l m (suc s) (X .more))
+
+  -- f is a, but for rows that do not matter, and i is out of its group
+  gone-waits : {f b : List (List ℕ)} (r : ℕ) → Long f → Only (REST ∷ TOUCHED ∷ []) a f → Gone w (putAt (putAt f TAIL k i) SIZE k r) b k i → WaitingFor (suc w) (gap u) b
+  gone-waits r L same G =
+      out-waits a r L same G (M .waits)
+      (λ l m.
+      let p-is = M .links .last i (place .low) (place .high) in
+      let at-p : at (row a DIST) (at (row a PREV) i) ≡ gap c (back c i) =
+      ap (at (row a DIST)) p-is ∙ M .links .next (back c i) (omega (arith, p-is)) (omega (arith, p-is, link-back place (M .links) c-few, place .high)) in
+      rw (at-p, M .links .next i (place .low) (place .high), p-is, ← gap-over place (omega (arith, p-is))) (later (back c i) (omega (arith, p-is)) (rw p-is at m)))
 
   -- ---- the least positions left
 
@@ -118,14 +142,14 @@ module _ {t S : List ℕ} {n s h g i k : ℕ} {o a : List (List ℕ)} (K : Known
         (lead-other c i (1000 + at u i) j (place .low) (place .high) (fresh j (w .1)) (M .rests j E) (λ e. ne (sym e ∙ own)))))
 
     -- the rows after the move
-    stepped-on : {b : List (List ℕ)} {j h′ g′ : ℕ} {part many que touched : List ℕ} → back u i ≡ j → Stepped a b k i j rest part many que touched
-        → ((w : ℕ) → suc s < w → at que w ≡ at (row a QUE) w) → PartedTo t S (suc s) h′ g′ b → MovedTo t S n (suc s) h′ g′ o b
+    stepped-on : {b : List (List ℕ)} {j h′ g′ : ℕ} {part many que touched : List ℕ} → back u i ≡ j → Stepped a b k i j rest part many que touched → WaitingFor (suc w) (gap u) b
+        → ((w : ℕ) → suc s < w → at que w ≡ at (row a QUE) w) → PartedTo t S (suc s) h′ g′ b → MovedTo t S n w (suc s) h′ g′ o b
     unfolding codes
-    stepped-on e W ahead P =
+    stepped-on e W waits ahead P =
         record {
           long = W .long;
           names = W .names ∙ M .names;
-          lists = W .lists;
+          waits = waits;
           links = rw (W .dist, W .prev, ← e, X .is) (linked-move place (M .links) c-few (M .long .each DIST (omega arith)) (M .long .each PREV (omega arith)));
           prev-beyond = rw (W .prev, ← e) (λ r l m. prev-on place (M .links) c-few r (omega (arith, c-long)) ∙ M .prev-beyond r l m);
           dist-beyond = rw (W .dist, ← e) (λ r l m. dist-on place (M .links) c-few r (omega (arith, c-long)) ∙ M .dist-beyond r l m);
@@ -135,12 +159,12 @@ module _ {t S : List ℕ} {n s h g i k : ℕ} {o a : List (List ℕ)} (K : Known
         }
 
   -- i begins a part: f is a, but that REST and TOUCHED may have been set
-  begun-on : {f b : List (List ℕ)} {g′ : ℕ} (r : ℕ) → r ≡ at (row a SIZE) k → Long f → Only (REST ∷ TOUCHED ∷ []) a f → Gone (putAt (putAt f TAIL k i) SIZE k (r - 1)) b k i → Alone t S s i k
+  begun-on : {f b : List (List ℕ)} {g′ : ℕ} (r : ℕ) → r ≡ at (row a SIZE) k → Long f → Only (REST ∷ TOUCHED ∷ []) a f → Gone w (putAt (putAt f TAIL k i) SIZE k (r - 1)) b k i → Alone t S s i k
       → Lead c k (at (row f REST) k) → ((j : ℕ) → 1 ≤ j → j ≢ k → at (row f REST) j ≡ at (row a REST) j) → Listing (Split t S (suc s)) (suc s) g′ (row f TOUCHED)
-      → MovedTo t S n (suc s) (suc h) g′ o (begunAt b (suc h) k i)
+      → MovedTo t S n w (suc s) (suc h) g′ o (begunAt b (suc h) k i)
   begun-on {f} r size L same G A lead others E =
       let W = stepped-begin a (r - 1) L same G (rw size refl) (suc h) in
-      stepped-on (row f REST) (L .each REST (omega arith)) lead others (alone-back K X A) W
+      stepped-on (row f REST) (L .each REST (omega arith)) lead others (alone-back K X A) W (begun-waits a (r - 1) L same G (suc h) (gone-waits (r - 1) L same G))
       (λ w l. put-other (row a QUE) (suc h) i w (omega arith) (omega arith) (omega (arith, M .parted .parts .few)))
       (parted-begin K (M .long) (M .parted) X A W E)
 
@@ -149,8 +173,8 @@ module _ {t S : List ℕ} {n s h g i k : ℕ} {o a : List (List ℕ)} (K : Known
   abbrev met : List (List ℕ)
   met = putAt (putAt a TOUCHED (suc g) k) REST k k
 
-  pub moved-first : {b : List (List ℕ)} (r : ℕ) → at (row a TAIL) k ≡ 0 → r ≡ at (row a SIZE) k → Gone (putAt (putAt met TAIL k i) SIZE k (r - 1)) b k i
-      → MovedTo t S n (suc s) (suc h) (suc g) o (begunAt b (suc h) k i)
+  pub moved-first : {b : List (List ℕ)} (r : ℕ) → at (row a TAIL) k ≡ 0 → r ≡ at (row a SIZE) k → Gone w (putAt (putAt met TAIL k i) SIZE k (r - 1)) b k i
+      → MovedTo t S n w (suc s) (suc h) (suc g) o (begunAt b (suc h) k i)
   unfolding among
   moved-first r z size G =
       begun-on r size (long-put (putAt a TOUCHED (suc g) k) REST k k long)
@@ -172,7 +196,7 @@ module _ {t S : List ℕ} {n s h g i k : ℕ} {o a : List (List ℕ)} (K : Known
 
   -- ---- a later one, j being the one before it
 
-  module _ {b : List (List ℕ)} (r : ℕ) (l : 1 ≤ at (row a TAIL) k) (size : r ≡ at (row a SIZE) k) (G : Gone (putAt (putAt a TAIL k i) SIZE k (r - 1)) b k i) where
+  module _ {b : List (List ℕ)} (r : ℕ) (l : 1 ≤ at (row a TAIL) k) (size : r ≡ at (row a SIZE) k) (G : Gone w (putAt (putAt a TAIL k i) SIZE k (r - 1)) b k i) where
     abbrev j : ℕ
     j = at (row a TAIL) k
 
@@ -182,7 +206,7 @@ module _ {t S : List ℕ} {n s h g i k : ℕ} {o a : List (List ℕ)} (K : Known
     lead : Lead c k (at (row a REST) k)
     lead = M .rests k (tail-split K (M .parted) (group-low K X) (group-most K X) l)
 
-    pub moved-begin : at t (suc j) ≢ at t (suc i) → MovedTo t S n (suc s) (suc h) g o (begunAt b (suc h) k i)
+    pub moved-begin : at t (suc j) ≢ at t (suc i) → MovedTo t S n w (suc s) (suc h) g o (begunAt b (suc h) k i)
     moved-begin ne =
         begun-on r size (M .long) same-rows G (alone-begin K X (M .parted .tails k (group-low K X) (group-most K X)) l ne) lead (λ j a d. refl)
         (groups-later K (M .long) (M .parted) X l)
@@ -199,17 +223,19 @@ module _ {t S : List ℕ} {n s h g i k : ℕ} {o a : List (List ℕ)} (K : Known
           let out = out-row a (r - 1) (M .long) same-rows G in
           record {
             long = G .long;
-            lists = G .lists;
+            heads = waiting-heads b (gone-waits (r - 1) (M .long) same-rows G);
             named = (group-low K X, group-most K X);
             low = l;
             behind = below;
             high = omega (arith, next-high K X, K .few, K .long);
-            last = rw (out-dist a (r - 1) (M .long) same-rows G, ← j-is) (cut-last place (M .links) c-few (omega (arith, j-is)));
             part = rw (out PART refl refl) (part .0, omega (arith, part .1, next-high K X, K .few, K .long));
             many = rw (out PART refl refl, out MANY refl refl) (omega (arith, many-few K (M .parted) (group-low K X) (group-most K X) l));
           }
 
-      pub moved-join : {d : List (List ℕ)} → Redone (countedAt b k j i) d j (i - j) → MovedTo t S n (suc s) h g o d
+      pub moved-join : {d : List (List ℕ)} → Changed w (countedAt b k j i) d j (i - j) → MovedTo t S n w (suc s) h g o d
       moved-join R =
           let W = stepped-join a (r - 1) (M .long) same-rows G (rw size refl) l R in
-          stepped-on (row a REST) (M .long .each REST (omega arith)) lead (λ j a d. refl) j-is W (λ w m. refl) (parted-join K (M .long) (M .parted) X l e W)
+          let waits =
+          R .waits (gap u) (counted-waits a (r - 1) (M .long) same-rows G j (gone-waits (r - 1) (M .long) same-rows G))
+          (λ a m. rw (← ap (λ (v : ℕ). i - v) j-is, ← gap-behind place (omega (arith, j-is)), j-is) (later j l m)) in
+          stepped-on (row a REST) (M .long .each REST (omega arith)) lead (λ j a d. refl) j-is W waits (λ w m. refl) (parted-join K (M .long) (M .parted) X l e W)

@@ -77,7 +77,7 @@ module _ {c : List ℕ} {i x t : ℕ} (P : Place c i x t) where
       gap-is c′ i 0 (P .low) (omega (arith, long, P .high)) (ap (at c′) (omega arith))
       (λ j l m r e. omega (arith, P .later j (omega arith) (omega (arith, long)) (sym (there j (omega arith) (omega arith)) ∙ e ∙ here)))
 
-  gap-behind : 1 ≤ t → gap c′ t ≡ i - t
+  pub gap-behind : 1 ≤ t → gap c′ t ≡ i - t
   gap-behind h =
       let b = P .behind in
       let own : at c′ t ≡ x = there t h (omega arith) ∙ P .same h in
@@ -104,7 +104,7 @@ module _ {c : List ℕ} {i x t : ℕ} (P : Place c i x t) where
       next (inr z) = ap (at c′) (omega arith)
 
   -- what was before i reaches over it
-  gap-over : 1 ≤ back c i → gap c′ (back c i) ≡ joined (gap c (back c i)) (gap c i)
+  pub gap-over : 1 ≤ back c i → gap c′ (back c i) ≡ joined (gap c (back c i)) (gap c i)
   gap-over h = ⊎-elim on last (lt-or-ge 0 (gap c i))
     where
       p : ℕ
@@ -202,17 +202,6 @@ module _ {c : List ℕ} {i x t : ℕ} (P : Place c i x t) where
     link-reach h =
         let e : at dist (at prev i) ≡ gap c (back c i) = ap (at dist) p-here ∙ L .next (back c i) (omega (arith, p-here)) (omega (arith, B .low, P .high)) in
         omega (arith, e, p-here, back-gap c i (P .low) (P .high) (omega (arith, p-here)), B .low)
-
-    -- t is the last of its code, and stays so while i leaves its group
-    pub cut-last : 1 ≤ t → at (put (bridged dist prev i) i 0) t ≡ 0
-    unfolding bridged
-    cut-last l =
-        let last : at dist t ≡ 0 =
-        L .next t l (omega (arith, P .behind, P .high))
-        ∙ gap-is c t 0 l (omega (arith, P .behind, P .high)) (ap (at c) (omega arith)) (λ j a b r e. P .free j a (P .later j (omega arith) b (e ∙ P .same l)) (e ∙ P .same l)) in
-        put-other (bridged dist prev i) i 0 t (P .low) l (omega (arith, P .behind))
-        ∙ some-other dist (at prev i) (joined (at dist (at prev i)) (at dist i)) t l (λ e. omega (arith, last, link-reach (omega arith), link-back, ap (at dist) e))
-        ∙ last
 
     -- no place beyond the table is written
     pub prev-on : (j : ℕ) → length c < j → at (prevAfter dist prev i t) j ≡ at prev j

@@ -181,7 +181,7 @@ module _ {t S : List ℕ} {n s h g i k : ℕ} {a : List (List ℕ)} (K : Known t
   abbrev u : List ℕ
   u = nextOf t S
 
-  here : (r j v : ℕ) → r < 13 → 1 ≤ j → j ≤ 1000 → at (put (row a r) j v) j ≡ v
+  here : (r j v : ℕ) → r < 12 → 1 ≤ j → j ≤ 1000 → at (put (row a r) j v) j ≡ v
   here r j v b low high = put-same (row a r) j v low (omega (arith, L .each r b))
 
   room : suc s ≤ 1000

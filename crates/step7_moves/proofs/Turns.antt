@@ -11,15 +11,20 @@ use lib.ListN.{length}
 use borrow.Author.Tests.{lt-ltb, le-ltb}
 use Rattle.words.specs.Range.{gather}
 use Rattle.words.specs.Reads.{at}
+use Rattle.words.specs.Groups.{gap}
 use Rattle.words.proofs.Tests.{lt-or-ge}
 use Rattle.slots.specs.Slots.{view}
 use Rattle.slots.proofs.Laws.{view-length, view-at}
-use Rattle.step1_rows.specs.Rows.{row, putAt, among, NAME, SIZE, QUE, TAIL, REST, TOUCHED}
+use Rattle.step1_rows.specs.Rows.{row, putAt, among, NAME, SIZE, DIST, QUE, TAIL, REST, TOUCHED}
 use Rattle.step1_rows.proofs.Laws.{only-none}
-use Rattle.step3_lists.specs.Listed.{Redone}
-use Rattle.refine.specs.Refine.{has}
+use Rattle.step3_lists.specs.Lists.{Place}
+use Rattle.step3_lists.specs.Filed.{Changed}
+use Rattle.step3_lists.proofs.Waits.{waits-last}
+use Rattle.refine.specs.Refine.{has, nextOf}
+use Rattle.refine.specs.Phases.{Bare}
 use Rattle.refine.specs.Leaving.{Known, paired, leaving}
 use Rattle.refine.proofs.Queues.{has-is, has-inside, lined-once}
+use Rattle.refine.proofs.Next.{next-length}
 use Rattle.refine.proofs.Leaving.{leaving-grow, leaving-stay, leaving-few, leaving-inside, leaving-at, leaving-from, from-at, leaving-lined}
 use Rattle.step6_leave.specs.Gone.{Leavable, Gone, begunAt, countedAt, Joinable}
 use Rattle.step7_moves.specs.Relink.{Past, codes}
@@ -28,21 +33,22 @@ use Rattle.step7_moves.specs.Moves.{Movable, Moved}
 use Rattle.step7_moves.specs.Moving.{MovedTo, leftBy, Moving, Turn}
 use Rattle.step7_moves.proofs.Prior.{past-has}
 use Rattle.step7_moves.proofs.Codes.{codes-linked, lead-last}
+use Rattle.step7_moves.proofs.Late.{late-inside, late-first}
 use Rattle.step7_moves.proofs.Parted.{reached-none, reached-all, reached-part, parted-few, tail-end, tail-few, tail-split, tail-paired, size-paired, size-some}
 use Rattle.step7_moves.proofs.Stepped.{out-row}
 use Rattle.step7_moves.proofs.MovedOn.{move-asks, moved-first, moved-begin, join-asks, moved-join}
 
 -- ---- the end, once all of S have moved
 
-pub moved-end : {t S : List ℕ} {n s h g : ℕ} {o a : List (List ℕ)} → Known t S n → s ≡ length S → MovedTo t S n s h g o a → Moved t S n o a h g
-moved-end {t} {S} {s = s} {a = a} K all M =
+pub moved-end : {t S : List ℕ} {n w s h g : ℕ} {o a : List (List ℕ)} → Known t S n → Bare n (row o DIST) → s ≡ length S → MovedTo t S n w s h g o a → Moved w t S n o a h g
+moved-end {t} {S} {n} {s = s} {a = a} K bare all M =
     record {
       long = M .long;
       names = M .names;
       links = codes-linked K (rw all at (M .links));
       prev-beyond = M .prev-beyond;
       dist-beyond = M .dist-beyond;
-      lists = M .lists;
+      waits = record { own = M .waits .own; lists = M .waits .lists; waits = waits-last (M .waits .waits) (at (row a DIST)) ended };
       sizes = record {
         long = M .long .each SIZE (omega arith);
         held = λ k b d. omega (arith, M .parted .left k b d, reached-all t S k (K .lined), ap (λ (v : ℕ). reached t S v k) all);
@@ -77,7 +83,17 @@ moved-end {t} {S} {s = s} {a = a} K all M =
     moves : {i : ℕ} → Past S s i → has S i ≡ true
     moves {i} p = past-has S s i (M .parted .within) p
 
-module _ {n m : ℕ} {o : List (List ℕ)} (R : Movable n m o) where
+    -- each distance is the one at the next width
+    ended : (i : ℕ) → Place i → 1 ≤ at (M .waits .own) i → 1 ≤ at (row a DIST) i → at (M .waits .own) i ≤ at (row a DIST) i
+    ended i p l m =
+        ⊎-elim
+        (λ o. absurd (omega (arith, m, M .dist-beyond i o (p .1), bare i o (p .1))))
+        (λ o.
+        let e : at (row a DIST) i ≡ gap (nextOf t S) i = codes-linked K (rw all at (M .links)) .next i (p .0) (omega (arith, o, K .long, next-length t S)) in
+        rw e (M .waits .waits .early i p l (rw e at m)))
+        (lt-or-ge n i)
+
+module _ {n m w : ℕ} {o : List (List ℕ)} (R : Movable n m w o) where
   abbrev t : List ℕ
   t = view n (row o NAME)
 
@@ -96,7 +112,14 @@ module _ {n m : ℕ} {o : List (List ℕ)} (R : Movable n m o) where
   none : (j : ℕ) → Past (leaving t Q) 0 j → ⊥
   none j p = omega (arith, p .1, p .2)
 
-  pub moving-start : Moving n m o o 0 0 0
+  -- who waits at this width waits for the next, as no distance falls
+  begun-early : (i : ℕ) → Place i → 1 ≤ at (R .waits .own) i → 1 ≤ gap (nextOf t (leaving t Q)) i → at (R .waits .own) i ≤ gap (nextOf t (leaving t Q)) i
+  begun-early i p l m =
+      let f = late-first known i (p .0) m in
+      let e = R .links .next i (p .0) (late-inside known i (p .0) m) in
+      omega (arith, f .1, e, R .waits .waits .early i p l (omega (arith, f .0, e)))
+
+  pub moving-start : Moving n m w o o 0 0 0
   unfolding codes gather
   moving-start =
       record {
@@ -104,7 +127,7 @@ module _ {n m : ℕ} {o : List (List ℕ)} (R : Movable n m o) where
         moved = record {
           long = R .long;
           names = refl;
-          lists = R .lists;
+          waits = record { own = R .waits .own; lists = R .waits .lists; waits = waits-last (R .waits .waits) (gap (nextOf t (leaving t Q))) begun-early };
           links = R .links;
           prev-beyond = R .prev-beyond;
           dist-beyond = λ i a b. refl;
@@ -125,15 +148,15 @@ module _ {n m : ℕ} {o : List (List ℕ)} (R : Movable n m o) where
         };
       }
 
-  pub moving-end : {a : List (List ℕ)} {q h g : ℕ} → m ≤ q → Moving n m o a q h g → Moved t (leaving t Q) n o a h g
+  pub moving-end : {a : List (List ℕ)} {q h g : ℕ} → m ≤ q → Moving n m w o a q h g → Moved w t (leaving t Q) n o a h g
   unfolding leaving
-  moving-end l M = moved-end known (ap (leftBy t Q) (omega (arith, M .done, Q-long))) (M .moved)
+  moving-end l M = moved-end known (R .dist-beyond) (ap (leftBy t Q) (omega (arith, M .done, Q-long))) (M .moved)
 
 -- what a turn asks
-pub turn-here : {n m q i h g : ℕ} {o a : List (List ℕ)} → Movable n m o → q < m → i ≡ at (row a QUE) (q + 1) → Moving n m o a q h g → Turn n m q o a i h g
+pub turn-here : {n m w q i h g : ℕ} {o a : List (List ℕ)} → Movable n m w o → q < m → i ≡ at (row a QUE) (q + 1) → Moving n m w o a q h g → Turn n m w q o a i h g
 turn-here {q = q} R l e M = record { start = R; more = l; here = rw (add-one q) at e; moving = M }
 
-module _ {n m q i h g : ℕ} {o a : List (List ℕ)} (T : Turn n m q o a i h g) where
+module _ {n m w q i h g : ℕ} {o a : List (List ℕ)} (T : Turn n m w q o a i h g) where
   abbrev tab : List ℕ
   tab = view n (row o NAME)
 
@@ -146,7 +169,7 @@ module _ {n m q i h g : ℕ} {o a : List (List ℕ)} (T : Turn n m q o a i h g) 
   K : Known tab (leaving tab que) n
   K = known (T .start)
 
-  M : MovedTo tab (leaving tab que) n s h g o a
+  M : MovedTo tab (leaving tab que) n w s h g o a
   M = T .moving .moved
 
   within : q < length que
@@ -173,11 +196,11 @@ module _ {n m q i h g : ℕ} {o a : List (List ℕ)} (T : Turn n m q o a i h g) 
   -- i has not moved before
   fresh : Past (leaving tab que) s i → ⊥
   fresh p =
-      let w = leaving-from tab que q (p .0) (p .1) (p .2) in
-      let early = w .early in
-      let same : suc (w .p) ≡ suc q =
-      lined-once que tab (T .start .lined) (suc (w .p)) (suc q) (omega arith) (omega (arith, within)) (omega arith) within
-      (sym (from-at tab que q (p .0) (omega (arith, within)) w) ∙ p .3 ∙ here) in
+      let v = leaving-from tab que q (p .0) (p .1) (p .2) in
+      let early = v .early in
+      let same : suc (v .p) ≡ suc q =
+      lined-once que tab (T .start .lined) (suc (v .p)) (suc q) (omega arith) (omega (arith, within)) (omega arith) within
+      (sym (from-at tab que q (p .0) (omega (arith, within)) v) ∙ p .3 ∙ here) in
       omega arith
 
   module _ {k : ℕ} (of : k ≡ at (row a NAME) i) where
@@ -193,7 +216,7 @@ module _ {n m q i h g : ℕ} {o a : List (List ℕ)} (T : Turn n m q o a i h g) 
 
     -- ---- a position alone in its group
 
-    pub turn-skip : at (row a TAIL) k ≡ 0 → at (row a SIZE) k ≤ 1 → Moving n m o a (suc q) h g
+    pub turn-skip : at (row a TAIL) k ≡ 0 → at (row a SIZE) k ≤ 1 → Moving n m w o a (suc q) h g
     turn-skip z l =
         let alone = size-paired K (M .parted) (turn-named .0) (turn-named .1) i (turn-place .0) i-in k-is z ∙ le-ltb 1 (at (row a SIZE) k) l in
         record { done = T .more; moved = rw (leaving-stay tab que q (rw here at alone)) M }
@@ -204,7 +227,7 @@ module _ {n m q i h g : ℕ} {o a : List (List ℕ)} (T : Turn n m q o a i h g) 
       next : Next tab (leaving tab que) s i k
       next = let f = rw here at e in record { more = leaving-inside tab que q f within; is = leaving-at tab que q f within ∙ sym here; of = k-is }
 
-      moving-on : {b : List (List ℕ)} {h′ g′ : ℕ} → MovedTo tab (leaving tab que) n (suc s) h′ g′ o b → Moving n m o b (suc q) h′ g′
+      moving-on : {b : List (List ℕ)} {h′ g′ : ℕ} → MovedTo tab (leaving tab que) n w (suc s) h′ g′ o b → Moving n m w o b (suc q) h′ g′
       moving-on W = record { done = T .more; moved = rw (leaving-grow tab que q (rw here at e)) W }
 
     -- ---- the first of its group
@@ -216,8 +239,8 @@ module _ {n m q i h g : ℕ} {o a : List (List ℕ)} (T : Turn n m q o a i h g) 
       pub first-asks : Leavable a k i
       first-asks = move-asks K M (next first)
 
-      pub turn-first : {b : List (List ℕ)} (r : ℕ) → r ≡ at (row a SIZE) k → Gone (putAt (putAt (putAt (putAt a TOUCHED (g + 1) k) REST k k) TAIL k i) SIZE k (r - 1)) b k i
-          → Moving n m o (begunAt b (h + 1) k i) (suc q) (h + 1) (g + 1)
+      pub turn-first : {b : List (List ℕ)} (r : ℕ) → r ≡ at (row a SIZE) k → Gone w (putAt (putAt (putAt (putAt a TOUCHED (g + 1) k) REST k k) TAIL k i) SIZE k (r - 1)) b k i
+          → Moving n m w o (begunAt b (h + 1) k i) (suc q) (h + 1) (g + 1)
       turn-first r size G = rw (add-one h, add-one g) (moving-on first (moved-first K M (next first) r z size (rw (add-one g) at G)))
 
     -- ---- a later one
@@ -233,7 +256,7 @@ module _ {n m q i h g : ℕ} {o a : List (List ℕ)} (T : Turn n m q o a i h g) 
       later-some = size-some K (M .long) (M .parted) (next later)
 
       -- b are the rows once it is out of its group, and j the one that moved before it
-      module _ {b : List (List ℕ)} (j r : ℕ) (last : j ≡ at (row a TAIL) k) (size : r ≡ at (row a SIZE) k) (G : Gone (putAt (putAt a TAIL k i) SIZE k (r - 1)) b k i) where
+      module _ {b : List (List ℕ)} (j r : ℕ) (last : j ≡ at (row a TAIL) k) (size : r ≡ at (row a SIZE) k) (G : Gone w (putAt (putAt a TAIL k i) SIZE k (r - 1)) b k i) where
         right : (v : ℕ) → suc v ≤ n → at (row b NAME) (v + 1) ≡ at tab (suc v)
         unfolding among
         right v d =
@@ -246,7 +269,7 @@ module _ {n m q i h g : ℕ} {o a : List (List ℕ)} (T : Turn n m q o a i h g) 
         right-last : at (row b NAME) (j + 1) ≡ at tab (suc (at (row a TAIL) k))
         right-last = rw last (right (at (row a TAIL) k) j-in)
 
-        pub turn-begin : at (row b NAME) (j + 1) ≢ at (row b NAME) (i + 1) → Moving n m o (begunAt b (h + 1) k i) (suc q) (h + 1) g
+        pub turn-begin : at (row b NAME) (j + 1) ≢ at (row b NAME) (i + 1) → Moving n m w o (begunAt b (h + 1) k i) (suc q) (h + 1) g
         turn-begin ne = rw (add-one h) (moving-on later (moved-begin K M (next later) r l size G (λ e. ne (right-last ∙ e ∙ sym (right i (turn-place .1))))))
 
         module _ (e : at (row b NAME) (j + 1) ≡ at (row b NAME) (i + 1)) where
@@ -256,5 +279,5 @@ module _ {n m q i h g : ℕ} {o a : List (List ℕ)} (T : Turn n m q o a i h g) 
           pub turn-asks : Joinable b k j i
           turn-asks = rw last (join-asks K M (next later) r l size G same)
 
-          pub turn-join : {d : List (List ℕ)} → Redone (countedAt b k j i) d j (i - j) → Moving n m o d (suc q) h g
+          pub turn-join : {d : List (List ℕ)} → Changed w (countedAt b k j i) d j (i - j) → Moving n m w o d (suc q) h g
           turn-join D = moving-on later (moved-join K M (next later) r l size G same (rw last at D))

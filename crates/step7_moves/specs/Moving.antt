@@ -7,9 +7,10 @@ use mathlib.Core.List.{List}
 use lib.ListN.{length}
 use Rattle.words.specs.Range.{gather}
 use Rattle.words.specs.Reads.{at}
+use Rattle.words.specs.Groups.{gap}
 use Rattle.slots.specs.Slots.{view}
 use Rattle.step1_rows.specs.Rows.{row, Long, NAME, PREV, DIST, QUE, REST}
-use Rattle.step3_lists.specs.Listed.{Listed}
+use Rattle.step3_lists.specs.Waits.{WaitingFor}
 use Rattle.refine.specs.Refine.{nextOf}
 use Rattle.refine.specs.Links.{Linked}
 use Rattle.refine.specs.Phases.{Bare, Kept}
@@ -24,11 +25,12 @@ pub record Lead (c : List ℕ) (k j : ℕ) : Type 0 where
   pub same : 1 ≤ j → at c j ≡ k
   pub free : (i : ℕ) → 1 ≤ i → i ≤ length c → (1 ≤ j → i < j) → at c i ≢ k
 
--- the rows a, from o, after the first s places of S: h parts and g groups were met, and the queue beyond is as it was
-pub record MovedTo (t S : List ℕ) (n s h g : ℕ) (o a : List (List ℕ)) : Type 0 where
+-- the rows a, from o, after the first s places of S: h parts and g groups were met, the queue beyond is as it was, and who waits does so for the distance
+-- at the next width
+pub record MovedTo (t S : List ℕ) (n w s h g : ℕ) (o a : List (List ℕ)) : Type 0 where
   pub long : Long a
   pub names : row a NAME ≡ row o NAME
-  pub lists : Listed a
+  pub waits : WaitingFor (suc w) (gap (nextOf t S)) a
   pub links : Linked (codes t (nextOf t S) S s) (row a DIST) (row a PREV)
   pub prev-beyond : Bare n (row a PREV)
   pub dist-beyond : Kept n (row o DIST) (row a DIST)
@@ -41,13 +43,13 @@ abbrev pub leftBy : List ℕ → List ℕ → ℕ → ℕ
 leftBy t Q q = length (gather (leaver t Q) q 1)
 
 -- the rows a, from o, after the first q places of the queue
-pub record Moving (n m : ℕ) (o a : List (List ℕ)) (q h g : ℕ) : Type 0 where
+pub record Moving (n m w : ℕ) (o a : List (List ℕ)) (q h g : ℕ) : Type 0 where
   pub done : q ≤ m
-  pub moved : MovedTo (view n (row o NAME)) (leaving (view n (row o NAME)) (view m (row o QUE))) n (leftBy (view n (row o NAME)) (view m (row o QUE)) q) h g o a
+  pub moved : MovedTo (view n (row o NAME)) (leaving (view n (row o NAME)) (view m (row o QUE))) n w (leftBy (view n (row o NAME)) (view m (row o QUE)) q) h g o a
 
 -- the same, where i is the next position of the queue
-pub record Turn (n m q : ℕ) (o a : List (List ℕ)) (i h g : ℕ) : Type 0 where
-  pub start : Movable n m o
+pub record Turn (n m w q : ℕ) (o a : List (List ℕ)) (i h g : ℕ) : Type 0 where
+  pub start : Movable n m w o
   pub more : q < m
   pub here : i ≡ at (row a QUE) (suc q)
-  pub moving : Moving n m o a q h g
+  pub moving : Moving n m w o a q h g

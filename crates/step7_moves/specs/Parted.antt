@@ -11,7 +11,6 @@ use Rattle.words.specs.Reads.{at}
 use Rattle.words.specs.Groups.{size}
 use Rattle.slots.specs.Slots.{put}
 use Rattle.step1_rows.specs.Rows.{row, Long, NAME, SIZE, PREV, DIST, QUE, PART, TAIL, REST, MANY, TOUCHED}
-use Rattle.step3_lists.specs.Listed.{Listed}
 use Rattle.refine.specs.Refine.{nextOf}
 use Rattle.refine.specs.Phases.{Bare}
 use Rattle.step6_leave.specs.Gone.{restAfter}
@@ -72,7 +71,6 @@ pub record PartedTo (t S : List ℕ) (s h g : ℕ) (a : List (List ℕ)) : Type 
 -- the rows b, from a, once i has left the group k and stands behind j, 0 for none; `rest` is what REST was, and the other lists are what the parts take
 pub record Stepped (a b : List (List ℕ)) (k i j : ℕ) (rest part many que touched : List ℕ) : Type 0 where
   pub long : Long b
-  pub lists : Listed b
   pub names : row b NAME ≡ row a NAME
   pub dist : row b DIST ≡ distAfter (row a DIST) (row a PREV) i j
   pub prev : row b PREV ≡ prevAfter (row a DIST) (row a PREV) i j

@@ -29,15 +29,15 @@ pub struct Made {
 }
 
 // i is the first that leaves the group k of r positions, and begins a part
-fn first_move(a: &mut [[u16; 1000]; 13], k: u16, i: u16, r: u16, made: Made) -> Made
-    requires { ⌜ ((n m q : ℕ) × (o : List (List ℕ)) × Turn n m q o (now a) i (made .parts) (made .groups)) × (k ≡ at (row (now a) NAME) i) × (at (row (now a) TAIL) k ≡ 0) × (r ≡ at (row (now a) SIZE) k) × (1 < r) ⌝ }
-    ensures { λ x. ⌜ ((n m q : ℕ) (o : List (List ℕ)) → Turn n m q o (now (a .entry)) i (made .parts) (made .groups) → Moving n m o (now (a .exit)) (suc q) (x .parts) (x .groups)) ⌝ }
+fn first_move(a: &mut [[u16; 1000]; 12], w: u16, k: u16, i: u16, r: u16, made: Made) -> Made
+    requires { ⌜ ((n m q : ℕ) × (o : List (List ℕ)) × Turn n m w q o (now a) i (made .parts) (made .groups)) × (k ≡ at (row (now a) NAME) i) × (at (row (now a) TAIL) k ≡ 0) × (r ≡ at (row (now a) SIZE) k) × (1 < r) ⌝ }
+    ensures { λ x. ⌜ ((n m q : ℕ) (o : List (List ℕ)) → Turn n m w q o (now (a .entry)) i (made .parts) (made .groups) → Moving n m w o (now (a .exit)) (suc q) (x .parts) (x .groups)) ⌝ }
 {
     let g = made.groups + 1;
     let h = made.parts + 1;
     store(a, TOUCHED, g, k);
     store(a, REST, k, k);
-    take_out(a, k, i, r);
+    take_out(a, w, k, i, r);
     begin_part(a, h, k, i);
     Made {
         parts: h,
@@ -46,13 +46,13 @@ fn first_move(a: &mut [[u16; 1000]; 13], k: u16, i: u16, r: u16, made: Made) -> 
 }
 
 // i leaves the group k of r positions after t, and joins its part or begins one
-fn next_move(a: &mut [[u16; 1000]; 13], k: u16, i: u16, r: u16, t: u16, made: Made) -> Made
-    requires { ⌜ ((n m q : ℕ) × (o : List (List ℕ)) × Turn n m q o (now a) i (made .parts) (made .groups)) × (k ≡ at (row (now a) NAME) i) × (t ≡ at (row (now a) TAIL) k) × (1 ≤ t) × (r ≡ at (row (now a) SIZE) k) ⌝ }
-    ensures { λ x. ⌜ ((n m q : ℕ) (o : List (List ℕ)) → Turn n m q o (now (a .entry)) i (made .parts) (made .groups) → Moving n m o (now (a .exit)) (suc q) (x .parts) (x .groups)) ⌝ }
+fn next_move(a: &mut [[u16; 1000]; 12], w: u16, k: u16, i: u16, r: u16, t: u16, made: Made) -> Made
+    requires { ⌜ ((n m q : ℕ) × (o : List (List ℕ)) × Turn n m w q o (now a) i (made .parts) (made .groups)) × (k ≡ at (row (now a) NAME) i) × (t ≡ at (row (now a) TAIL) k) × (1 ≤ t) × (r ≡ at (row (now a) SIZE) k) ⌝ }
+    ensures { λ x. ⌜ ((n m q : ℕ) (o : List (List ℕ)) → Turn n m w q o (now (a .entry)) i (made .parts) (made .groups) → Moving n m w o (now (a .exit)) (suc q) (x .parts) (x .groups)) ⌝ }
 {
-    take_out(a, k, i, r);
+    take_out(a, w, k, i, r);
     if load(a, NAME, t + 1) == load(a, NAME, i + 1) {
-        join(a, k, t, i);
+        join(a, w, k, t, i);
         return made;
     }
     let h = made.parts + 1;
@@ -64,26 +64,26 @@ fn next_move(a: &mut [[u16; 1000]; 13], k: u16, i: u16, r: u16, t: u16, made: Ma
 }
 
 // i leaves its group, if it is not alone there
-fn move_one(a: &mut [[u16; 1000]; 13], i: u16, made: Made) -> Made
-    requires { ⌜ ((n m q : ℕ) × (o : List (List ℕ)) × Turn n m q o (now a) i (made .parts) (made .groups)) ⌝ }
-    ensures { λ x. ⌜ ((n m q : ℕ) (o : List (List ℕ)) → Turn n m q o (now (a .entry)) i (made .parts) (made .groups) → Moving n m o (now (a .exit)) (suc q) (x .parts) (x .groups)) ⌝ }
+fn move_one(a: &mut [[u16; 1000]; 12], w: u16, i: u16, made: Made) -> Made
+    requires { ⌜ ((n m q : ℕ) × (o : List (List ℕ)) × Turn n m w q o (now a) i (made .parts) (made .groups)) ⌝ }
+    ensures { λ x. ⌜ ((n m q : ℕ) (o : List (List ℕ)) → Turn n m w q o (now (a .entry)) i (made .parts) (made .groups) → Moving n m w o (now (a .exit)) (suc q) (x .parts) (x .groups)) ⌝ }
 {
     let k = load(a, NAME, i);
     let t = load(a, TAIL, k);
     let r = load(a, SIZE, k);
     if 0 < t {
-        return next_move(a, k, i, r, t, made);
+        return next_move(a, w, k, i, r, t, made);
     }
     if 1 < r {
-        return first_move(a, k, i, r, made);
+        return first_move(a, w, k, i, r, made);
     }
     made
 }
 
-// the positions of the queue of m leave their groups
-pub fn move_all(a: &mut [[u16; 1000]; 13], n: u16, m: u16) -> Made
-    requires { ⌜ Movable n m (now a) ⌝ }
-    ensures { λ r. ⌜ Moved (view n (row (now (a .entry)) NAME)) (leaving (view n (row (now (a .entry)) NAME)) (view m (row (now (a .entry)) QUE))) n (now (a .entry)) (now (a .exit)) (r .parts) (r .groups) ⌝ }
+// the positions of the queue of m leave their groups, in the step from width w
+pub fn move_all(a: &mut [[u16; 1000]; 12], n: u16, w: u16, m: u16) -> Made
+    requires { ⌜ Movable n m w (now a) ⌝ }
+    ensures { λ r. ⌜ Moved w (view n (row (now (a .entry)) NAME)) (leaving (view n (row (now (a .entry)) NAME)) (view m (row (now (a .entry)) QUE))) n (now (a .entry)) (now (a .exit)) (r .parts) (r .groups) ⌝ }
 {
     let mut made = Made {
         parts: 0,
@@ -93,7 +93,7 @@ pub fn move_all(a: &mut [[u16; 1000]; 13], n: u16, m: u16) -> Made
     while q < m {
         q += 1;
         let i = load(a, QUE, q);
-        made = move_one(a, i, made);
+        made = move_one(a, w, i, made);
     }
     made
 }

@@ -21,7 +21,7 @@ use step1_rows::store;
 use step1_rows::store_wide;
 
 // the group whose least position is h is named h
-pub fn rename(a: &mut [[u16; 1000]; 13], h: u16)
+pub fn rename(a: &mut [[u16; 1000]; 12], h: u16)
     requires { ⌜ Long (now a) × ((u : List ℕ) × Walkable u (row (now a) DIST) h) ⌝ }
     ensures { λ r. ⌜ Long (now (a .exit)) × Only (NAME ∷ []) (now (a .entry)) (now (a .exit)) × ((u : List ℕ) → Walkable u (row (now (a .entry)) DIST) h → Swept u (row (now (a .entry)) NAME) (row (now (a .exit)) NAME) h (length u)) ⌝ }
 {
@@ -36,7 +36,7 @@ pub fn rename(a: &mut [[u16; 1000]; 13], h: u16)
 }
 
 // the turn of the group k
-fn group_one(a: &mut [[u16; 1000]; 13], k: u16)
+fn group_one(a: &mut [[u16; 1000]; 12], k: u16)
     requires { ⌜ Due (now a) k ⌝ }
     ensures { λ r. ⌜ Done (now (a .entry)) (now (a .exit)) k ⌝ }
 {
@@ -53,7 +53,7 @@ fn group_one(a: &mut [[u16; 1000]; 13], k: u16)
 }
 
 // the turns of g groups
-pub fn group_all(a: &mut [[u16; 1000]; 13], n: u16, h: u16, g: u16)
+pub fn group_all(a: &mut [[u16; 1000]; 12], n: u16, h: u16, g: u16)
     requires { ⌜ ((t : List ℕ) × (S : List ℕ) × Turnable t S n h g (now a)) ⌝ }
     ensures { λ r. ⌜ ((t S : List ℕ) → Turnable t S n h g (now (a .entry)) → Regrouped t S n h (now (a .exit)) × Only (NAME ∷ SIZE ∷ TAIL ∷ MANY ∷ []) (now (a .entry)) (now (a .exit))) ⌝ }
 {

@@ -33,7 +33,7 @@ fn better(b: u16, z: u16, c: u16, y: u16) -> bool
 }
 
 // the part c is weighed against the best so far of its old group k, and whichever loses is small
-fn weigh(a: &mut [[u16; 1000]; 13], small: &mut [u64; 17], k: u16, c: u16)
+fn weigh(a: &mut [[u16; 1000]; 12], small: &mut [u64; 17], k: u16, c: u16)
     requires { ⌜ Sound (now small) × (1 ≤ k) × (k ≤ 1000) × (1 ≤ c) × (c ≤ 1000) × (at (row (now a) REST) k ≤ 1000) ⌝ }
     ensures { λ r. ⌜ Sound (now (small .exit)) × (now (a .exit) ≡ weighed (now (a .entry)) k c) × (flags (now (small .exit)) ≡ withLoser (now (a .entry)) (flags (now (small .entry))) k c) ⌝ }
 {
@@ -51,7 +51,7 @@ fn weigh(a: &mut [[u16; 1000]; 13], small: &mut [u64; 17], k: u16, c: u16)
 }
 
 // the turn of the part c
-fn part_one(a: &mut [[u16; 1000]; 13], small: &mut [u64; 17], c: u16)
+fn part_one(a: &mut [[u16; 1000]; 12], small: &mut [u64; 17], c: u16)
     requires { ⌜ Sound (now small) × Due (now a) c ⌝ }
     ensures { λ r. ⌜ Sound (now (small .exit)) × Done (now (a .entry)) (now (a .exit)) (flags (now (small .entry))) (flags (now (small .exit))) c ⌝ }
 {
@@ -63,7 +63,7 @@ fn part_one(a: &mut [[u16; 1000]; 13], small: &mut [u64; 17], c: u16)
 }
 
 // the turns of h parts
-pub fn part_all(a: &mut [[u16; 1000]; 13], small: &mut [u64; 17], n: u16, h: u16)
+pub fn part_all(a: &mut [[u16; 1000]; 12], small: &mut [u64; 17], n: u16, h: u16)
     requires { ⌜ Sound (now small) × Empty (flags (now small)) × ((t : List ℕ) × (S : List ℕ) × Regrouped t S n h (now a)) ⌝ }
     ensures { λ r. ⌜ ((t S : List ℕ) → Regrouped t S n h (now (a .entry)) → Turned t S n (now (a .entry)) (now (a .exit)) (now (small .exit))) ⌝ }
 {

@@ -1,5 +1,5 @@
 -- One width: what each phase leaves is what the next one asks, and what the last leaves are groups again. Assumes nothing.
-use Prim.Native.Nat.{ℕ, _≤_, _<_}
+use Prim.Native.Nat.{ℕ, suc, _≤_, _<_}
 use mathlib.Core.Path.{_≡_, refl, sym, ap, subst, _∙_}
 use mathlib.Core.Logic.{inl, inr, ⊎-elim}
 use mathlib.Core.Bool.{Bool, true, false, _&&_, not}
@@ -10,17 +10,18 @@ use lib.Dec.{eqb}
 use borrow.Author.Tests.{eqb-true}
 use Rattle.words.specs.Range.{bit}
 use Rattle.words.specs.Reads.{at}
-use Rattle.words.specs.Groups.{big, partsSmall}
+use Rattle.words.specs.Groups.{Least, big, partsSmall}
 use Rattle.words.proofs.Tests.{either, and-left, lt-or-ge}
 use Rattle.words.proofs.Small.{parts-small-at, parts-small-length}
 use Rattle.slots.specs.Slots.{view}
 use Rattle.slots.proofs.Laws.{view-length, view-is}
-use Rattle.step1_rows.specs.Rows.{row, Long, Only, among, NAME, SIZE, PREV, DIST, HEAD, AFTER, BEFORE, QUE, TAIL, REST, MANY}
+use Rattle.step1_rows.specs.Rows.{row, Long, Only, among, NAME, SIZE, PREV, DIST, HEAD, AFTER, QUE, TAIL, REST, MANY}
 use Rattle.step1_rows.proofs.Laws.{only-row}
 use Rattle.step2_bits.specs.Sets.{flags, Sound, Empty}
-use Rattle.step3_lists.specs.Listed.{Listed}
+use Rattle.step3_lists.specs.Waits.{Waiting}
+use Rattle.step3_lists.proofs.Changing.{waiting-rows}
 use Rattle.refine.specs.Refine.{queue, nextOf}
-use Rattle.refine.specs.Phases.{FlagsOf, Flagged}
+use Rattle.refine.specs.Phases.{FlagsOf, Flagged, Gaps}
 use Rattle.refine.specs.Leaving.{leaving, Known}
 use Rattle.refine.proofs.Next.{next-length, next-least}
 use Rattle.refine.proofs.Queue.{queue-lined}
@@ -45,10 +46,6 @@ flags-of-names t f small p long is named F =
           (lt-or-ge (length t) s);
     }
 
--- lists by distance stay where their rows do
-lists-same : (a b : List (List ℕ)) → row b DIST ≡ row a DIST → row b HEAD ≡ row a HEAD → row b AFTER ≡ row a AFTER → row b BEFORE ≡ row a BEFORE → Listed a → Listed b
-lists-same a b d h f e L = rw (d, h, f, e) L
-
 module _ (n : ℕ) (a : List (List ℕ)) (small : List ℕ) (H : Held n a small) where
   abbrev t : List ℕ
   t = view n (row a NAME)
@@ -60,9 +57,35 @@ module _ (n : ℕ) (a : List (List ℕ)) (small : List ℕ) (H : Held n a small)
   pub held-long : length t ≡ n
   held-long = view-length n (row a NAME) (omega (arith, H .few, H .long .each 0 (omega arith)))
 
-  -- once the queue of the width is made, it can be moved
-  module _ (m : ℕ) (b : List (List ℕ)) (w : List ℕ) (L : Long b) (O : Only (QUE ∷ []) a b) (queued : view m (row b QUE) ≡ due) (count : m ≡ length due) (S : Sound w) (E : Empty (flags w)) where
-    pub held-queued : Queued n m b w
+  -- what the queue asks
+  pub queue-asks : (n ≤ 1000) × Long a × Least t × Gaps t (row a DIST) × FlagsOf t (flags small) × Sound small
+  queue-asks = (H .few, H .long, H .least, record { long = H .long .each DIST (omega arith); next = H .links .next }, H .flags-of, H .sound)
+
+  -- what the lists hold does not matter
+  pub held-passed : (b : List (List ℕ)) → Long b → Only (HEAD ∷ AFTER ∷ []) a b → Held n b small
+  unfolding among
+  held-passed b L O =
+      let name = only-row (HEAD ∷ AFTER ∷ []) a b NAME O refl in
+      let size = only-row (HEAD ∷ AFTER ∷ []) a b SIZE O refl in
+      let prev = only-row (HEAD ∷ AFTER ∷ []) a b PREV O refl in
+      let dist = only-row (HEAD ∷ AFTER ∷ []) a b DIST O refl in
+      record {
+        few = H .few;
+        long = L;
+        name-beyond = rw name (H .name-beyond);
+        prev-beyond = rw prev (H .prev-beyond);
+        dist-beyond = rw dist (H .dist-beyond);
+        least = rw name (H .least);
+        sized = rw (name, size) (H .sized);
+        links = rw (name, dist, prev) (H .links);
+        tails = rw (only-row (HEAD ∷ AFTER ∷ []) a b TAIL O refl) (H .tails);
+        sound = H .sound;
+        flags-of = rw name (H .flags-of);
+      }
+
+  -- once the queue of the width v is made, it can be moved
+  module _ (v : ℕ) (W : Waiting (suc v) a) (m : ℕ) (b : List (List ℕ)) (w : List ℕ) (L : Long b) (O : Only (QUE ∷ []) a b) (queued : view m (row b QUE) ≡ due) (count : m ≡ length due) (S : Sound w) (E : Empty (flags w)) where
+    pub held-queued : Queued n m v b w
     unfolding among
     held-queued =
         let name = only-row (QUE ∷ []) a b NAME O refl in
@@ -78,30 +101,30 @@ module _ (n : ℕ) (a : List (List ℕ)) (small : List ℕ) (H : Held n a small)
                 long = L;
                 name-beyond = rw name (H .name-beyond);
                 prev-beyond = rw prev (H .prev-beyond);
+                dist-beyond = rw dist (H .dist-beyond);
                 least = rw name (H .least);
                 lined = rw (name, queued) (queue-lined t (view n (flags small)));
                 sized = rw (name, size) (H .sized);
                 links = rw (name, dist, prev) (H .links);
-                lists = lists-same a b dist (only-row (QUE ∷ []) a b HEAD O refl) (only-row (QUE ∷ []) a b AFTER O refl) (only-row (QUE ∷ []) a b BEFORE O refl) (H .lists);
+                waits = waiting-rows a b dist (only-row (QUE ∷ []) a b HEAD O refl) (only-row (QUE ∷ []) a b AFTER O refl) W;
                 tails = rw tail (H .tails);
               };
-          dist-beyond = rw dist (H .dist-beyond);
           sound = S;
           empty = E;
         }
 
     -- and what its moves make is the next width
-    pub queued-advanced : (c : List (List ℕ)) (v : List ℕ) → Refined (view n (row b NAME)) (view m (row b QUE)) n c v → Advanced n m a small c v
+    pub queued-advanced : (c : List (List ℕ)) (s : List ℕ) → Refined (view n (row b NAME)) (view m (row b QUE)) n c s → Advanced n m a small c s
     unfolding among
-    queued-advanced c v R =
+    queued-advanced c s R =
         let name = only-row (QUE ∷ []) a b NAME O refl in
         record {
           moves = count ∙ queue-length t (view n (flags small)) (H .least);
-          refined = subst (λ (x : List ℕ). Refined (view n x) due n c v) name (subst (λ (x : List ℕ). Refined (view n (row b NAME)) x n c v) queued R);
+          refined = subst (λ (x : List ℕ). Refined (view n x) due n c s) name (subst (λ (x : List ℕ). Refined (view n (row b NAME)) x n c s) queued R);
         }
 
 -- the moves, then the turns of the groups and of the parts
-module _ (n m : ℕ) (a : List (List ℕ)) (small : List ℕ) (D : Queued n m a small) where
+module _ (n m v : ℕ) (a : List (List ℕ)) (small : List ℕ) (D : Queued n m v a small) where
   abbrev old : List ℕ
   old = view n (row a NAME)
 
@@ -117,7 +140,7 @@ module _ (n m : ℕ) (a : List (List ℕ)) (small : List ℕ) (D : Queued n m a 
   known : Known old S n
   known = record { few = D .movable .few; long = old-long; least = D .movable .least; lined = leaving-lined old Q (D .movable .lined) }
 
-  module _ (h g : ℕ) (b : List (List ℕ)) (M : Moved old S n a b h g) where
+  module _ (h g : ℕ) (b : List (List ℕ)) (M : Moved v old S n a b h g) where
     pub moved-turnable : Turnable old S n h g b
     moved-turnable =
         record {
@@ -142,6 +165,10 @@ module _ (n m : ℕ) (a : List (List ℕ)) (small : List ℕ) (D : Queued n m a 
       stays : (r : ℕ) → among (NAME ∷ SIZE ∷ TAIL ∷ MANY ∷ []) r ≡ false → among (NAME ∷ SIZE ∷ REST ∷ []) r ≡ false → row d r ≡ row b r
       stays r p q = only-row (NAME ∷ SIZE ∷ REST ∷ []) c d r (T .only) q ∙ only-row (NAME ∷ SIZE ∷ TAIL ∷ MANY ∷ []) b c r O p
 
+      pub turned-waits : Waiting (suc v) d
+      unfolding among
+      turned-waits = waiting-rows b d (stays DIST refl refl) (stays HEAD refl refl) (stays AFTER refl refl) (M .waits)
+
       pub turned-refined : Refined old Q n d w
       unfolding among
       turned-refined =
@@ -157,11 +184,10 @@ module _ (n m : ℕ) (a : List (List ℕ)) (small : List ℕ) (D : Queued n m a 
                   long = T .long;
                   name-beyond = T .beyond;
                   prev-beyond = rw (stays PREV refl refl) (M .prev-beyond);
-                  dist-beyond = rw (stays DIST refl refl) (λ i l k. M .dist-beyond i l k ∙ D .dist-beyond i l k);
+                  dist-beyond = rw (stays DIST refl refl) (λ i l k. M .dist-beyond i l k ∙ D .movable .dist-beyond i l k);
                   least = rw (T .names) (next-least old S);
                   sized = rw (T .names) (T .sized);
                   links = rw (T .names, stays DIST refl refl, stays PREV refl refl) (M .links);
-                  lists = lists-same b d (stays DIST refl refl) (stays HEAD refl refl) (stays AFTER refl refl) (stays BEFORE refl refl) (M .lists);
                   tails = rw (only-row (NAME ∷ SIZE ∷ REST ∷ []) c d TAIL (T .only) refl) (R .tails);
                   sound = T .sound;
                   flags-of = rw (T .names)

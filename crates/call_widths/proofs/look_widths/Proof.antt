@@ -15,8 +15,9 @@ use Rattle.step1_rows.specs.Rows.{row}
 use Rattle.step2_bits.specs.Sets.{flags, Sound, Empty}
 use Rattle.steps.specs.Walk.{Walks}
 use Rattle.steps.proofs.Begins.{begin-asks}
-use Rattle.steps.proofs.Walks.{walks-begin, walks-on}
-use Rattle.call_widths.proofs.Onward.{held-near, upTo, listing-none, listing-more, listing-on, listing-whole, some, counted-none, counted-more, counted-on, counted-whole, counted-few}
+use Rattle.steps.proofs.Phases.{held-passed}
+use Rattle.steps.proofs.Walks.{stands-passed, walks-begin, walks-on}
+use Rattle.call_widths.proofs.Onward.{held-near, passed-where, upTo, listing-none, listing-more, listing-on, listing-whole, some, counted-none, counted-more, counted-on, counted-whole, counted-few}
 use Rattle.call_widths.proofs.look_widths.Statement.{statement}
 use Rattle.call_widths.proofs.look_widths.Tie as tie
 
@@ -33,21 +34,22 @@ loop-holds : tie.Need-loop-holds Inv-loop μ-loop
 loop-holds c =
     let S = c .before .begin .ensures in
     let e = c .top-of .ensures in
-    (walks-begin _ _ _ _ _ (omega (arith, e, top-some (length (c .before .before .before .before .before .before .args .read .now)))) S, listing-none _ _ _ _, e, search needs, omega arith, zeros-clean .long, begin-asks .1, begin-asks .2, sym (counted-none _ _ _))
+    (walks-begin _ _ _ _ _ (omega (arith, e, top-some (length (c .before .before .before .before .before .before .args .read .now)))) (S .0) (S .1), listing-none _ _ _ _, e, search needs, omega arith, zeros-clean .long, begin-asks .1, begin-asks .2, sym (counted-none _ _ _))
 
-starts-requires : tie.Need-starts-requires Inv-loop μ-loop
-starts-requires c κs =
+pass-requires : tie.Need-pass-requires Inv-loop μ-loop
+pass-requires c κs =
     let I = c .before .before .before .loop .inv in
     let H = I .0 .held in
-    (H .long, H .lists, I .6, I .7, I .0 .low, omega (arith, I .2, c .before .before .loop-test .taken, top-few _ (H .few)))
+    let l = c .before .before .loop-test .taken in
+    (H .long, I .0 .waits (omega (arith, l)), I .6, I .0 .low, omega (arith, I .2, l, top-few _ (H .few)))
 
 rows-at-requires : tie.Need-rows-at-requires Inv-loop μ-loop
 unfolding row
 rows-at-requires c κs =
     let I = c .before .before .before .before .before .before .before .before .loop .inv in
     let H = I .0 .held in
-    let E = c .before .before .before .before .starts .ensures in
-    (held-near _ _ _ H _ (I .0 .low), E .0, E .1, omega (arith, I .2, I .4, c .before .before .before .before .before .before .before .loop-test .taken, top-few _ (H .few)), I .5)
+    let E = c .before .before .before .before .pass .ensures in
+    (held-near _ _ _ (held-passed _ _ _ H _ (E .0) (E .1)) _ (I .0 .low), E .3, passed-where _ _ _ _ _ (E .1) (I .7) (E .4), omega (arith, I .2, I .4, c .before .before .before .before .before .before .before .loop-test .taken, top-few _ (H .few)), I .5)
 
 counted-requires : tie.Need-counted-requires Inv-loop μ-loop
 counted-requires c κs =
@@ -57,31 +59,33 @@ counted-requires c κs =
 onward-requires : tie.Need-onward-requires Inv-loop μ-loop
 onward-requires c κs =
     let I = c .before .before .before .before .before .before .before .before .before .before .before .before .before .before .loop .inv in
-    (I .0 .held, I .0 .low, omega (arith, c .before .before .before .before .before .before .before .before .before .before .before .before .before .loop-test .taken), omega (arith, I .2, top-few _ (I .0 .held .few)))
+    let E = c .before .before .before .before .before .before .before .before .before .before .pass .ensures in
+    (held-passed _ _ _ (I .0 .held) _ (E .0) (E .1), E .2, I .0 .low, omega (arith, c .before .before .before .before .before .before .before .before .before .before .before .before .before .loop-test .taken), omega (arith, I .2, top-few _ (I .0 .held .few)))
 
 loop-less : tie.Need-loop-less Inv-loop μ-loop
-loop-less c = omega (arith, c .onward .ensures .1, c .before .before .before .before .before .before .before .before .before .before .before .before .before .before .loop-test .taken)
+loop-less c = omega (arith, c .onward .ensures .2, c .before .before .before .before .before .before .before .before .before .before .before .before .before .before .loop-test .taken)
 
 loop-again : tie.Need-loop-again Inv-loop μ-loop
 unfolding row
 loop-again c =
     let I = c .before .before .before .before .before .before .before .before .before .before .before .before .before .before .before .loop .inv in
     let W = I .0 in
-    let S = W .here (omega (arith, c .before .before .before .before .before .before .before .before .before .before .before .before .before .before .loop-test .taken)) in
+    let E = c .before .before .before .before .before .before .before .before .before .before .before .pass .ensures in
+    let S = stands-passed _ _ _ _ _ _ (E .0) (E .1) (W .here (omega (arith, c .before .before .before .before .before .before .before .before .before .before .before .before .before .before .loop-test .taken))) in
     let L = c .before .before .before .before .before .before .rows-at .ensures in
     let O = c .onward .ensures in
-    let N = O .3 _ S in
+    let N = O .4 _ S in
     let M = listing-more _ _ _ _ _ _ _ _ _ _ _ _ (W .low) S (I .1) (L .0) in
     let C = c .before .before .before .counted .ensures in (
-      walks-on _ _ _ _ _ _ _ (omega (arith, O .1)) (O .0) N,
-      listing-on _ _ _ _ _ _ _ _ _ _ _ _ (O .1) (O .2) N M,
+      walks-on _ _ _ _ _ _ _ (omega (arith, O .2)) (O .0) (O .1) N,
+      listing-on _ _ _ _ _ _ _ _ _ _ _ _ (O .2) (O .3) N M,
       I .2,
-      O .2,
-      omega (arith, L .1, I .4, O .1, W .low),
+      O .3,
+      omega (arith, L .1, I .4, O .2, W .low),
       L .2,
       L .3,
       L .4,
-      counted-on _ _ _ _ _ _ _ _ _ _ (O .1) (O .2) N (C ∙ counted-more _ _ _ _ _ _ _ _ _ _ (W .low) (I .1) M (I .8)),
+      counted-on _ _ _ _ _ _ _ _ _ _ (O .2) (O .3) N (C ∙ counted-more _ _ _ _ _ _ _ _ _ _ (W .low) (I .1) M (I .8)),
     )
 
 returns : tie.Need-returns Inv-loop μ-loop
@@ -99,7 +103,7 @@ look-widths-spec =
     (λ c κs. (search needs, search needs, begin-asks .0, begin-asks .1, begin-asks .2))
     (λ c κs. search needs)
     loop-holds
-    starts-requires
+    pass-requires
     (λ c. search needs)
     rows-at-requires
     counted-requires

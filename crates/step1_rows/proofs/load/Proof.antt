@@ -4,27 +4,21 @@ use Rattle.step1_rows.specs.Rows.{row}
 use Rattle.step1_rows.proofs.load.Statement.{statement}
 use Rattle.step1_rows.proofs.load.Tie as tie
 
--- src/lib.rt:41:13
 sub-k : tie.Need-sub-k
 sub-k c = search needs
 
--- src/lib.rt:42:5
 mul-result : tie.Need-mul-result
 mul-result c = search needs
 
--- src/lib.rt:42:5
 mul-result-2 : tie.Need-mul-result-2
 mul-result-2 c = search needs
 
--- src/lib.rt:42:5
 index-1-result : tie.Need-index-1-result
 index-1-result c = search needs
 
--- src/lib.rt:42:5
 index-2-result : tie.Need-index-2-result
 index-2-result c = search needs
 
--- src/lib.rt:37:1
 returns : tie.Need-returns
 unfolding at row
 returns c = search needs

@@ -1,11 +1,10 @@
--- `join` meets its contract: its stores are the definition, and `link` does the rest. Assumes nothing.
+-- `join` meets its contract: its stores are the definition, and `change` does the rest. Assumes nothing.
 use mathlib.Core.Path.{refl}
 use native.Mathlib.Omega.{arith}
 use borrow.Author.Needs.{needs}
-use Rattle.step1_rows.specs.Rows.{PREV, DIST, MANY}
-use Rattle.step1_rows.proofs.Laws.{row-other, long-put}
+use Rattle.step1_rows.proofs.Laws.{long-put}
+use Rattle.step3_lists.proofs.Changing.{heads-put}
 use Rattle.step6_leave.specs.Gone.{countedAt}
-use Rattle.step6_leave.proofs.Gone.{listed-put}
 use Rattle.step6_leave.proofs.join.Statement.{statement}
 use Rattle.step6_leave.proofs.join.Tie as tie
 
@@ -15,19 +14,17 @@ add-store c =
     let m = rw (← l .load .ensures) at (l .before .before .pre .many) in
     omega (arith, c .before .load2 .ensures, m)
 
-link-requires : tie.Need-link-requires
-link-requires c κs =
+change-requires : tie.Need-change-requires
+change-requires c κs =
     let many = c .before .before .before in
     let l = many .before .before in
     let J = l .before .before .before .before .pre in
     rw (c .before .store2 .ensures, many .store .ensures) (
       long-put _ _ _ _ (long-put _ _ _ _ (J .long)),
-      listed-put _ _ _ _ refl refl refl refl (listed-put _ _ _ _ refl refl refl refl (J .lists)),
+      heads-put _ _ _ _ refl (heads-put _ _ _ _ refl (J .heads)),
       J .low,
       omega (arith, J .behind, J .high),
-      rw (row-other _ PREV _ _ DIST refl, row-other _ MANY _ _ DIST refl) (J .last),
-      omega (arith, J .behind),
-      omega (arith, J .low, J .behind, J .high),
+      omega (arith, J .high),
     )
 
 returns : tie.Need-returns
@@ -36,7 +33,7 @@ returns c =
     let prev = c .before .before in
     let many = prev .before .before in
     let l = many .before .before in
-    rw (prev .store2 .ensures, many .store .ensures, l .load2 .ensures, l .before .before .load .ensures) at (c .link .ensures)
+    rw (prev .store2 .ensures, many .store .ensures, l .load2 .ensures, l .before .before .load .ensures) at (c .change .ensures)
 
 pub join-spec : {M : Type 1} → statement M
-join-spec = tie.close (tie.spec (λ c κs. search needs) (λ c κs. search needs) add-store (λ c κs. search needs) (λ c κs. search needs) (λ c. search needs) link-requires returns)
+join-spec = tie.close (tie.spec (λ c κs. search needs) (λ c κs. search needs) add-store (λ c κs. search needs) (λ c κs. search needs) (λ c. search needs) change-requires returns)

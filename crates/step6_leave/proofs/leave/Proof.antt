@@ -11,14 +11,14 @@ detach-requires c κs =
     let p = d .before .before in
     let A = p .before .before .pre in
     let C = o .close .ensures in
-    (C .long, C .lists, A .low, rw (d .load2 .ensures) (A .ahead), closed-dist _ _ _ _ _ _ A (p .load .ensures) (d .load2 .ensures) C)
+    (C .long, A .low, rw (d .load2 .ensures) (A .ahead), closed-dist _ _ _ _ _ _ _ A (p .load .ensures) (d .load2 .ensures) C)
 
 returns : tie.Need-returns
 returns c =
     let o = c .before .before in
     let d = o .before .before in
     let p = d .before .before in
-    gone _ _ _ _ _ _ (p .before .before .pre) (p .load .ensures) (d .load2 .ensures) (o .close .ensures) _ (c .detach .ensures)
+    gone _ _ _ _ _ _ _ (p .before .before .pre) (p .load .ensures) (d .load2 .ensures) (o .close .ensures) _ (c .detach .ensures)
 
 pub leave-spec : {M : Type 1} → statement M
 leave-spec = tie.close (tie.spec (λ c κs. search needs) (λ c κs. search needs) (λ c κs. search needs) detach-requires returns)

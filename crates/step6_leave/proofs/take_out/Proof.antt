@@ -11,7 +11,7 @@ leave-requires c κs =
     let tail = size .before .before in
     let s = tail .before .before .pre in
     rw (size .store2 .ensures, tail .store .ensures)
-    (leavable-put _ _ _ _ _ _ refl refl refl refl refl (leavable-put _ _ _ _ _ _ refl refl refl refl refl (s .0)))
+    (leavable-put _ _ _ _ _ _ refl refl refl (leavable-put _ _ _ _ _ _ refl refl refl (s .0)))
 
 returns : tie.Need-returns
 returns c =

@@ -25,8 +25,8 @@ take-out-requires : tie.Need-take-out-requires
 take-out-requires c κs =
     let s = c .before .before .before .before .before .before .before .pre in (
       rw (c .before .store2 .ensures, c .before .before .before .store .ensures)
-          (leavable-put _ _ _ _ _ _ refl refl refl refl refl
-          (leavable-put _ _ _ _ _ _ refl refl refl refl refl (first-asks (s .0 .4) (s .1) (s .2) (rw (s .3) at (s .4))))),
+          (leavable-put _ _ _ _ _ _ refl refl refl
+          (leavable-put _ _ _ _ _ _ refl refl refl (first-asks (s .0 .4) (s .1) (s .2) (rw (s .3) at (s .4))))),
       omega (arith, s .4),
     )
 

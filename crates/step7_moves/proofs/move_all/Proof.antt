@@ -9,10 +9,10 @@ use Rattle.step7_moves.proofs.move_all.Statement.{statement}
 use Rattle.step7_moves.proofs.move_all.Tie as tie
 
 abbrev Inv-loop : tie.InvT-loop
-Inv-loop a₀ n m made₀ q₀ a made q = Moving n m a₀ a q (made .parts) (made .groups)
+Inv-loop a₀ n w m made₀ q₀ a made q = Moving n m w a₀ a q (made .parts) (made .groups)
 
 abbrev μ-loop : tie.MeasureT-loop
-μ-loop a₀ n m made₀ q₀ a made q = m - q
+μ-loop a₀ n w m made₀ q₀ a made q = m - q
 
 loop-holds : tie.Need-loop-holds Inv-loop μ-loop
 loop-holds c = moving-start (c .pre)

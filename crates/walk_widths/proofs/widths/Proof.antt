@@ -1,7 +1,9 @@
 -- `widths` meets its contract: the partition stays good from width to width, and the measure is what is left of the widths. Assumes nothing.
 use Prim.Native.Nat.{_≤_, _-_}
 use mathlib.Core.Path.{_≡_}
+use native.Mathlib.Omega.{arith}
 use Rattle.partition.specs.Stand.{Good}
+use Rattle.partition.proofs.OfRead.{of-good}
 use borrow.Author.Needs.{needs}
 use Rattle.walk_widths.proofs.widths.Statement.{statement}
 use Rattle.walk_widths.proofs.widths.Tie as tie
@@ -31,7 +33,9 @@ word-requires-2 : tie.Need-word-requires-2 Inv-loop μ-loop
 word-requires-2 c κs = search needs
 
 loop-holds : tie.Need-loop-holds Inv-loop μ-loop
-loop-holds c = search needs
+loop-holds c =
+    let p = c .before .before .before .before .before in
+    (search needs, of-good _ 1 _ (omega arith) (p .fresh .ensures), search needs)
 
 width-requires : tie.Need-width-requires Inv-loop μ-loop
 width-requires c κs = search needs
