@@ -27,6 +27,7 @@ fn write_log(read: &[u8], out: &mut [u16]) -> usize
     let n = read.len() as u16;
     let mut a = [[0u16; 1000]; 12];
     let mut small = [0u64; 17];
+    // the starts of the widths, which no log asks for
     let mut found = [0u64; 17];
     begin(&mut a, &mut small, read, n);
     let end = n / 2;

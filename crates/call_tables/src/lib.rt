@@ -25,6 +25,7 @@ fn write_table(out: &mut [u16], read: &[u8], w: u16)
     let n = read.len() as u16;
     let mut a = [[0u16; 1000]; 12];
     let mut small = [0u64; 17];
+    // the starts of the widths, which no table asks for
     let mut found = [0u64; 17];
     begin(&mut a, &mut small, read, n);
     let mut v: u16 = 1;

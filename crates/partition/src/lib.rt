@@ -1,6 +1,6 @@
 // The groups of a read at one width, as a value that steps to the next. A partition holds the read's length, the width, the names of the groups, their
-// sizes, the links between their positions, the lists of the positions of equal distance, and which groups are small: nothing of the read and nothing
-// of another width. It is thin: a step is made on rows (crate steps), which the list, the group table and the log keep from width to width.
+// sizes, the links between their positions, the lists on which positions wait for their distance, and which groups are small: nothing of the read and
+// nothing of another width. It is thin: a step is made on rows (crate steps), which the list, the group table and the log keep from width to width.
 ghost use mathlib.Core.Path.{_≡_};
 ghost use Prim.Native.Nat.{_≤_, _<_};
 ghost use lib.ListN.{length};

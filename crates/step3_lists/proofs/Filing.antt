@@ -2,7 +2,7 @@
 use Prim.Native.Nat.{ℕ, _+_, _-_, _≤_}
 use mathlib.Core.Path.{_≡_, refl, sym, ap, _∙_}
 use mathlib.Core.Bool.{cond}
-use mathlib.Core.Logic.{⊎-elim, by-cases, _≢_}
+use mathlib.Core.Logic.{_⊎_, inl, inr, ⊎-elim, by-cases, _≢_}
 use mathlib.Core.List.{List, [], _∷_, List·Memᴰ, List·Memᴰ·head, List·Memᴰ·tail, List·Memᴰ·not-nil, List·Memᴰ·cases-cons}
 use native.Mathlib.Omega.{arith}
 use native.Mathlib.Decide.{ℕ-discrete}
@@ -68,90 +68,108 @@ module _ {own head after : List ℕ} (L : Lists own head after) where
   lists-empty w p z i q e =
       List·Memᴰ·not-nil (rw (chain-none after (L .on w) (at head w) (L .chain w p) z) at (L .listed w i p q e))
 
+  -- ---- the list of d changes, as i comes on it or leaves it: it has the places m, and begins at h
+
+  module _ (d i : ℕ) (pd : Place d) (pi : Place i) (v h k : ℕ) (m : List ℕ) (elsewhere : (e : ℕ) → Place e → e ≢ d → at own i ≢ e) (new : (v ≡ d) ⊎ ((v ≡ 0) × (k ≡ 0)))
+      (chain : Chain (put after i k) h m) (has : (j : ℕ) → Place j → at (put own i v) j ≡ d → List·Memᴰ j m) (only : (j : ℕ) → List·Memᴰ j m → at (put own i v) j ≡ d) where
+    changed : ℕ → List ℕ
+    changed e = cond (eqb e d) m (L .on e)
+
+    changed-here : (e : ℕ) → e ≡ d → changed e ≡ m
+    unfolding changed
+    changed-here e q = rw (eq-eqb e d q)
+
+    changed-there : (e : ℕ) → e ≢ d → changed e ≡ L .on e
+    unfolding changed
+    changed-there e q = rw (ne-eqb e d q)
+
+    own-here : (j : ℕ) → j ≡ i → at (put own i v) j ≡ v
+    own-here j e = ap (at (put own i v)) e ∙ put-same own i v (pi .0) (omega (arith, pi .1, L .lo))
+
+    own-there : (j : ℕ) → Place j → j ≢ i → at (put own i v) j ≡ at own j
+    own-there j p ne = put-other own i v j (pi .0) (p .0) ne
+
+    chains : (e : ℕ) → Place e → Chain (put after i k) (at (put head d h) e) (changed e)
+    chains e p =
+        by-cases (ℕ-discrete e d)
+        (λ q. rw (changed-here e q, q, put-same head d h (pd .0) (omega (arith, pd .1, L .lh))) chain)
+        (λ q.
+        rw (changed-there e q, put-other head d h e (pd .0) (p .0) q)
+        (chain-put after (L .on e) (at head e) i k (pi .0) (λ x. elsewhere e p q (L .only e i p x)) (L .chain e p)))
+
+    all-listed : (e j : ℕ) → Place e → Place j → at (put own i v) j ≡ e → List·Memᴰ j (changed e)
+    all-listed e j p q s =
+        by-cases (ℕ-discrete e d)
+        (λ y. rw (changed-here e y) (has j q (s ∙ y)))
+        (λ y.
+        rw (changed-there e y)
+        (by-cases (ℕ-discrete j i)
+        (λ z. absurd (⊎-elim (λ x. y (sym s ∙ own-here j z ∙ x)) (λ x. omega (arith, s, own-here j z, x .0, p .0)) new))
+        (λ z. L .listed e j p q (sym (own-there j q z) ∙ s))))
+
+    listed-only : (e j : ℕ) → Place e → List·Memᴰ j (changed e) → at (put own i v) j ≡ e
+    listed-only e j p x =
+        by-cases (ℕ-discrete e d)
+        (λ y. only j (rw (changed-here e y) at x) ∙ sym y)
+        (λ y.
+        let t = rw (changed-there e y) at x in
+        let q = chain-place after (L .on e) (at head e) (L .chain e p) j t .0 in
+        own-there j q (λ z. elsewhere e p y (ap (at own) (sym z) ∙ L .only e j p t)) ∙ L .only e j p t)
+
+    lists-one : Lists (put own i v) (put head d h) (put after i k)
+    lists-one =
+        record {
+          lo = put-length own i v ∙ L .lo;
+          lh = put-length head d h ∙ L .lh;
+          la = put-length after i k ∙ L .la;
+          on = changed;
+          chain = chains;
+          listed = all-listed;
+          only = listed-only;
+          within = λ j p.
+              by-cases (ℕ-discrete j i)
+              (λ z. ⊎-elim (λ x. omega (arith, own-here j z, x, pd .1)) (λ x. omega (arith, own-here j z, x .0)) new)
+              (λ z. omega (arith, own-there j p z, L .within j p));
+          free = λ j p e.
+              by-cases (ℕ-discrete j i)
+              (λ z.
+              ap (at (put after i k)) z ∙ put-same after i k (pi .0) (omega (arith, pi .1, L .la))
+              ∙ ⊎-elim (λ x. absurd (omega (arith, e, own-here j z, x, pd .0))) (λ x. x .1) new)
+              (λ z. put-other after i k j (pi .0) (p .0) z ∙ L .free j p (sym (own-there j p z) ∙ e));
+        }
+
   -- ---- i, which is on no list, comes first on the list of d
 
   module _ (i d : ℕ) (pi : Place i) (pd : Place d) (none : at own i ≡ 0) where
-    filed : ℕ → List ℕ
-    filed e = cond (eqb e d) (i ∷ L .on d) (L .on e)
-
-    filed-here : (e : ℕ) → e ≡ d → filed e ≡ i ∷ L .on d
-    unfolding filed
-    filed-here e q = rw (eq-eqb e d q)
-
-    filed-there : (e : ℕ) → e ≢ d → filed e ≡ L .on e
-    unfolding filed
-    filed-there e q = rw (ne-eqb e d q)
-
     -- i is on none of the old lists
-    absent : (e : ℕ) → Place e → List·Memᴰ i (L .on e) → ⊥
-    absent e p m = omega (arith, none, L .only e i p m, p .0)
+    absent : (e : ℕ) → Place e → at own i ≢ e
+    absent e p q = omega (arith, none, q, p .0)
 
     abbrev link : ℕ
     link = at head d + 1
 
-    own-here : at (put own i d) i ≡ d
-    own-here = put-same own i d (pi .0) (omega (arith, pi .1, L .lo))
-
-    own-there : (k : ℕ) → Place k → k ≢ i → at (put own i d) k ≡ at own k
-    own-there k p ne = put-other own i d k (pi .0) (p .0) ne
-
     link-here : at (put after i link) i ≡ link
     link-here = put-same after i link (pi .0) (omega (arith, pi .1, L .la))
-
-    old-chain : (e : ℕ) → Place e → Chain (put after i link) (at head e) (L .on e)
-    old-chain e p = chain-put after (L .on e) (at head e) i link (pi .0) (absent e p) (L .chain e p)
 
     back : link - 1 ≡ at head d
     back = omega arith
 
-    new-chain : (e : ℕ) → Place e → Chain (put after i link) (at (put head d i) e) (filed e)
+    longer : Chain (put after i link) i (i ∷ L .on d)
     unfolding Chain
-    new-chain e p =
-        by-cases (ℕ-discrete e d)
-        (λ q.
-        rw (filed-here e q, q, put-same head d i (pd .0) (omega (arith, pd .1, L .lh)))
-        (refl, pi, omega (arith, link-here), rw (link-here, back) (old-chain d pd)))
-        (λ q. rw (filed-there e q, put-other head d i e (pd .0) (p .0) q) (old-chain e p))
-
-    new-listed : (e k : ℕ) → Place e → Place k → at (put own i d) k ≡ e → List·Memᴰ k (filed e)
-    new-listed e k p q s =
-        by-cases (ℕ-discrete k i)
-        (λ z. rw (filed-here e (sym s ∙ ap (at (put own i d)) z ∙ own-here)) (List·Memᴰ·head z))
-        (λ z.
-        let m = L .listed e k p q (sym (own-there k q z) ∙ s) in
-        by-cases (ℕ-discrete e d) (λ y. rw (filed-here e y) (List·Memᴰ·tail (rw y at m))) (λ y. rw (filed-there e y) m))
-
-    old-only : (e k : ℕ) → Place e → List·Memᴰ k (L .on e) → at (put own i d) k ≡ e
-    old-only e k p m =
-        let q = chain-place after (L .on e) (at head e) (L .chain e p) k m .0 in
-        own-there k q (λ z. absent e p (rw z at m)) ∙ L .only e k p m
-
-    new-only : (e k : ℕ) → Place e → List·Memᴰ k (filed e) → at (put own i d) k ≡ e
-    new-only e k p m =
-        by-cases (ℕ-discrete e d)
-        (λ y.
-        ⊎-elim
-        (λ z. ap (at (put own i d)) z ∙ own-here ∙ sym y)
-        (λ t. old-only d k pd t ∙ sym y)
-        (List·Memᴰ·cases-cons (rw (filed-here e y) at m)))
-        (λ y. old-only e k p (rw (filed-there e y) at m))
+    longer =
+        (refl, pi, omega (arith, link-here), rw (link-here, back) (chain-put after (L .on d) (at head d) i link (pi .0) (λ x. absent d pd (L .only d i pd x)) (L .chain d pd)))
 
     pub lists-file : Lists (put own i d) (put head d i) (put after i (at head d + 1))
     lists-file =
-        record {
-          lo = put-length own i d ∙ L .lo;
-          lh = put-length head d i ∙ L .lh;
-          la = put-length after i link ∙ L .la;
-          on = filed;
-          chain = new-chain;
-          listed = new-listed;
-          only = new-only;
-          within = λ k p. by-cases (ℕ-discrete k i) (λ z. omega (arith, ap (at (put own i d)) z, own-here, pd .1)) (λ z. omega (arith, own-there k p z, L .within k p));
-          free = λ k p e.
-              by-cases (ℕ-discrete k i)
-              (λ z. absurd (omega (arith, e, ap (at (put own i d)) z, own-here, pd .0)))
-              (λ z. put-other after i link k (pi .0) (p .0) z ∙ L .free k p (sym (own-there k p z) ∙ e));
-        }
+        lists-one d i pd pi d i link (i ∷ L .on d) (λ e p ne. absent e p) (inl refl) longer
+        (λ j q s. by-cases (ℕ-discrete j i) (λ z. List·Memᴰ·head z) (λ z. List·Memᴰ·tail (L .listed d j pd q (sym (put-other own i d j (pi .0) (q .0) z) ∙ s))))
+        (λ j x.
+        ⊎-elim
+        (λ z. ap (at (put own i d)) z ∙ put-same own i d (pi .0) (omega (arith, pi .1, L .lo)))
+        (λ t.
+        let s = L .only d j pd t in
+        put-other own i d j (pi .0) (chain-place after (L .on d) (at head d) (L .chain d pd) j t .0 .0) (λ z. absent d pd (ap (at own) (sym z) ∙ s)) ∙ s)
+        (List·Memᴰ·cases-cons x))
 
   -- ---- h, the first on the list of w, leaves it
 
@@ -183,81 +201,20 @@ module _ {own head after : List ℕ} (L : Lists own head after) where
     B : Begins w h
     B = begins w h pw first some
 
-    ph : Place h
-    ph = B .place
+    pub first-place : Place h
+    first-place = B .place
 
-    own-first : at own h ≡ w
-    own-first = L .only w h pw (rw (B .is) (List·Memᴰ·head refl))
-
-    kept : ℕ → List ℕ
-    kept e = cond (eqb e w) (B .rest) (L .on e)
-
-    kept-here : (e : ℕ) → e ≡ w → kept e ≡ B .rest
-    unfolding kept
-    kept-here e q = rw (eq-eqb e w q)
-
-    kept-there : (e : ℕ) → e ≢ w → kept e ≡ L .on e
-    unfolding kept
-    kept-there e q = rw (ne-eqb e w q)
-
-    gone-here : at (put own h 0) h ≡ 0
-    gone-here = put-same own h 0 (ph .0) (omega (arith, ph .1, L .lo))
-
-    gone-there : (k : ℕ) → Place k → k ≢ h → at (put own h 0) k ≡ at own k
-    gone-there k p ne = put-other own h 0 k (ph .0) (p .0) ne
-
-    abbrev then : ℕ
-    then = at after h - 1
-
-    kept-chain : (e : ℕ) → Place e → Chain (put after h 0) (at (put head w then) e) (kept e)
-    kept-chain e p =
-        by-cases (ℕ-discrete e w)
-        (λ q. rw (kept-here e q, q, put-same head w then (pw .0) (omega (arith, pw .1, L .lh))) (chain-put after (B .rest) then h 0 (ph .0) (B .once) (B .on)))
-        (λ q.
-        rw (kept-there e q, put-other head w then e (pw .0) (p .0) q)
-        (chain-put after (L .on e) (at head e) h 0 (ph .0) (λ m. q (sym (L .only e h p m) ∙ own-first)) (L .chain e p)))
-
-    kept-listed : (e k : ℕ) → Place e → Place k → at (put own h 0) k ≡ e → List·Memᴰ k (kept e)
-    kept-listed e k p q s =
-        by-cases (ℕ-discrete k h)
-        (λ z. absurd (omega (arith, s, ap (at (put own h 0)) z, gone-here, p .0)))
-        (λ z.
-        let m = L .listed e k p q (sym (gone-there k q z) ∙ s) in
-        by-cases (ℕ-discrete e w)
-        (λ y. rw (kept-here e y) (⊎-elim (λ x. absurd (z x)) (λ t. t) (List·Memᴰ·cases-cons (rw (y, B .is) at m))))
-        (λ y. rw (kept-there e y) m))
-
-    kept-only : (e k : ℕ) → Place e → List·Memᴰ k (kept e) → at (put own h 0) k ≡ e
-    kept-only e k p m =
-        by-cases (ℕ-discrete e w)
-        (λ y.
-        let t = rw (kept-here e y) at m in
-        let q = chain-place after (B .rest) then (B .on) k t .0 in
-        gone-there k q (λ z. B .once (rw z at t)) ∙ L .only w k pw (rw (B .is) (List·Memᴰ·tail t)) ∙ sym y)
-        (λ y.
-        let t = rw (kept-there e y) at m in
-        let q = chain-place after (L .on e) (at head e) (L .chain e p) k t .0 in
-        gone-there k q (λ z. y (sym (L .only e k p t) ∙ ap (at own) z ∙ own-first)) ∙ L .only e k p t)
+    pub first-own : at own h ≡ w
+    first-own = L .only w h pw (rw (B .is) (List·Memᴰ·head refl))
 
     pub lists-take : Lists (put own h 0) (put head w (at after h - 1)) (put after h 0)
     lists-take =
-        record {
-          lo = put-length own h 0 ∙ L .lo;
-          lh = put-length head w then ∙ L .lh;
-          la = put-length after h 0 ∙ L .la;
-          on = kept;
-          chain = kept-chain;
-          listed = kept-listed;
-          only = kept-only;
-          within = λ k p. by-cases (ℕ-discrete k h) (λ z. omega (arith, ap (at (put own h 0)) z, gone-here)) (λ z. omega (arith, gone-there k p z, L .within k p));
-          free = λ k p e.
-              by-cases (ℕ-discrete k h)
-              (λ z. ap (at (put after h 0)) z ∙ put-same after h 0 (ph .0) (omega (arith, ph .1, L .la)))
-              (λ z. put-other after h 0 k (ph .0) (p .0) z ∙ L .free k p (sym (gone-there k p z) ∙ e));
-        }
-
-    pub first-place : Place h
-    first-place = ph
-
-    pub first-own : at own h ≡ w
-    first-own = own-first
+        let low = B .place .0 in
+        lists-one w h pw (B .place) 0 (at after h - 1) 0 (B .rest) (λ e p ne q. ne (sym q ∙ first-own)) (inr (refl, refl))
+        (chain-put after (B .rest) (at after h - 1) h 0 low (B .once) (B .on))
+        (λ j q s.
+        let ne : j ≢ h = λ z. omega (arith, s, ap (at (put own h 0)) z, put-same own h 0 low (omega (arith, B .place .1, L .lo)), pw .0) in
+        ⊎-elim (λ x. absurd (ne x)) (λ t. t) (List·Memᴰ·cases-cons (rw (B .is) at (L .listed w j pw q (sym (put-other own h 0 j low (q .0) ne) ∙ s)))))
+        (λ j t.
+        put-other own h 0 j low (chain-place after (B .rest) (at after h - 1) (B .on) j t .0 .0) (λ z. B .once (rw z at t))
+        ∙ L .only w j pw (rw (B .is) (List·Memᴰ·tail t)))

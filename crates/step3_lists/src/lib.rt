@@ -1,7 +1,7 @@
 // The positions that wait, in lists, one list for each distance: HEAD holds the first of a list, and AFTER leads on. A distance never falls from width to
 // width, and the list of d is looked at only at width d: so a position whose distance grows stays where it waits, on a list of a distance that it had, and
 // is filed on when that list's width comes. `change` gives a position a distance, `pass` empties the list of a width; neither takes a position out of the
-// middle of a list, so none has to know what is before it. `Waiting` says at which widths who waits.
+// middle of a list, so none has to know what is before it. `Waiting` says who has to be on a list at a width, and on which.
 ghost use mathlib.Core.Path.{_≡_};
 ghost use mathlib.Core.Bool.{cond};
 ghost use mathlib.Core.List.{[], _∷_};

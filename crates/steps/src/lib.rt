@@ -1,5 +1,6 @@
 // From width to width, on the rows: `begin` makes the groups of width 1 of a read, `advance` makes one step, and `onward` walks over the widths for
-// whoever looks at each of them. The queue of a width and its moves are two functions, since the log writes the moves between them.
+// whoever looks at each of them. The queue of a width and its moves are two functions, since the log writes the moves between them. Before either, whoever
+// walks passes the list of the width (`step3_lists::pass`), where the lister finds its starts.
 ghost use mathlib.Core.Path.{_≡_};
 ghost use mathlib.Core.List.{List};
 ghost use Prim.Native.Nat.{ℕ, suc, _+_, _≤_, _<_};
