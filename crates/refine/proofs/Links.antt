@@ -14,6 +14,7 @@ use Rattle.words.specs.Reads.{at}
 use Rattle.words.specs.Groups.{gap}
 use Rattle.words.proofs.Tests.{either, clash, lt-or-ge, same-test}
 use Rattle.words.proofs.Ranges.{found, Found, first-same}
+use Rattle.words.proofs.Small.{Refines}
 use Rattle.refine.specs.Links.{back}
 
 -- d is the distance from i to the next position of its group, 0 if there is none
@@ -64,7 +65,7 @@ module _ (t : List ℕ) (i : ℕ) where
           })
 
   -- after the last position there is none
-  pub gap-beyond : length t < i → gap t i ≡ 0
+  gap-beyond : length t < i → gap t i ≡ 0
   unfolding gap
   gap-beyond l = ⊎-elim (λ e. absurd (omega (arith, leb-true (i + ahead) (length t) e))) (λ e. rw e) (either (leb (i + ahead) (length t)))
 
@@ -123,3 +124,12 @@ module _ (t u : List ℕ) (long : length t ≡ length u) (alike : (i j : ℕ) �
   unfolding back
   back-agrees =
       rw (first-same (λ m. eqb (at t (i - m)) (at t i)) (λ m. eqb (at u (i - m)) (at u i)) (i - 1) 1 (λ m c d. test-agrees (i - m) i (omega arith) (omega arith) a b))
+
+-- ---- finer groups: no distance is less, where there is one
+
+pub gap-grows : (t u : List ℕ) → Refines t u → (i : ℕ) → 1 ≤ i → 1 ≤ gap u i → (i ≤ length u) × (1 ≤ gap t i) × (gap t i ≤ gap u i)
+gap-grows t u R i a some =
+    let b : i ≤ length u = ⊎-elim (λ l. absurd (omega (arith, gap-beyond u i l))) (λ l. l) (lt-or-ge (length u) i) in
+    let N = gap-nearest u i b in
+    let r = gap-reach t i (gap u i) some (omega (arith, N .high, R .long)) (R .splits (i + gap u i) i (omega arith) (N .high) a b (N .same)) in
+    (b, r .0, r .1)

@@ -3,6 +3,7 @@ use Prim.Native.Nat.{ℕ, _≤_}
 use mathlib.Core.Path.{_≡_, refl, sym, _∙_}
 use mathlib.Core.Bool.{true}
 use mathlib.Core.List.{List}
+use native.Mathlib.Omega.{arith}
 use lib.ListN.{length}
 use lib.Dec.{eqb}
 use borrow.Author.Tests.{eqb-true, eq-eqb}
@@ -12,6 +13,7 @@ use Rattle.words.proofs.Tests.{and-left, and-right}
 use Rattle.words.proofs.Ranges.{length-column}
 use Rattle.words.proofs.Leaders.{Equivalence, leaders-least, leaders-test}
 use Rattle.words.specs.Groups.{Least}
+use Rattle.words.proofs.Small.{Refines}
 use Rattle.refine.specs.Refine.{leaves, together, nextOf}
 
 module _ (t Q : List ℕ) where
@@ -53,3 +55,11 @@ module _ (t Q : List ℕ) where
 
     pub same-next : at t i ≡ at t j → leaves t Q i ≡ leaves t Q j → at (nextOf t Q) i ≡ at (nextOf t Q) j
     same-next e l = eqb-true (at (nextOf t Q) i) (at (nextOf t Q) j) (next-test i j a b c d ∙ is-together i j e l)
+
+-- groups are only split
+pub next-refines : (t Q : List ℕ) → Refines t (nextOf t Q)
+next-refines t Q =
+    record {
+      long = sym (next-length t Q);
+      splits = λ i j a b c d e. next-same t Q i j a (omega (arith, next-length t Q)) c (omega (arith, next-length t Q)) e .0;
+    }

@@ -1,9 +1,10 @@
 -- What is read after a store. Assumes nothing.
 use Prim.Native.Nat.{ℕ, suc, _-_, _≤_, _<_}
 use mathlib.Core.Path.{_≡_, sym, ap, _∙_}
-use mathlib.Core.Logic.{⊎-elim, _≢_}
+use mathlib.Core.Logic.{⊎-elim, by-cases, _≢_}
 use mathlib.Core.List.{List}
 use native.Mathlib.Omega.{arith}
+use native.Mathlib.Decide.{ℕ-discrete}
 use lib.ListN.{length, length-set, getD, take}
 use lib.Seq.{getD-set-same, getD-set-other, set-getD, set-set, set-comm, getD-take, length-take-le, ext-getD}
 use borrow.Author.Tests.{lt-ltb, le-ltb}
@@ -23,6 +24,10 @@ module _ (a : List ℕ) (i v : ℕ) where
   pub put-other : (j : ℕ) → 1 ≤ i → 1 ≤ j → j ≢ i → at (put a i v) j ≡ at a j
   unfolding put at
   put-other j h l ne = getD-set-other a (i - 1) (j - 1) v 0 (λ e. ne (omega arith))
+
+  -- what holds of the number stored and of all others holds of all
+  pub put-each : (P : ℕ → ℕ → Type 0) → 1 ≤ i → i ≤ length a → P i v → ((k : ℕ) → 1 ≤ k → k ≢ i → P k (at a k)) → (k : ℕ) → 1 ≤ k → P k (at (put a i v) k)
+  put-each P h l p q k m = by-cases (ℕ-discrete k i) (λ e. rw (e, put-same h l) p) (λ n. rw (put-other k h m n) (q k m n))
 
   -- the last of two stores at one place stands, a store of what stands there is none, and two at two places may be made in any order
   pub put-again : (w : ℕ) → put (put a i v) i w ≡ put a i w

@@ -82,6 +82,13 @@ waiting-has {b} a W l i p e =
 pub waiting-place : {b : ℕ} (a : List (List ℕ)) → Waiting b a → (d i : ℕ) → 1 ≤ d → List·Memᴰ i (walk (row a AFTER) 1000 (at (row a HEAD) d)) → Place i
 waiting-place a W d i l m = lists-place (W .lists) d i l m
 
+-- the last distances may be others, where none is below the list
+pub waiting-last : {b : ℕ} {last : ℕ → ℕ} (a : List (List ℕ)) (W : WaitingFor b last a) (to : ℕ → ℕ) → ((i : ℕ) → Place i → 1 ≤ at (W .own) i → 1 ≤ to i → at (W .own) i ≤ to i)
+    → WaitingFor b to a
+waiting-last a W to f =
+    let X = W .waits in
+    record { own = W .own; lists = W .lists; waits = record { low = X .low; above = X .above; there = X .there; early = f } }
+
 -- other rows do not matter
 module _ {b : ℕ} (a c : List (List ℕ)) (d : row c DIST ≡ row a DIST) (h : row c HEAD ≡ row a HEAD) (f : row c AFTER ≡ row a AFTER) where
   pub waiting-for-rows : {last : ℕ → ℕ} → WaitingFor b last a → WaitingFor b last c
@@ -108,7 +115,7 @@ listed-file a L S i d pi pd none =
     rw (filed-dist b lb i d, filed-head b lb i d, filed-after b lb i d, row-same a DIST i d L (omega arith), row-other a DIST i d HEAD refl, row-other a DIST i d AFTER refl)
     (lists-file S i d pi pd none)
 
--- who is on the list of his own distance waits from width 1 on
+-- a place on the list of its own distance waits for it, from width 1 on
 pub waiting-listed : (a : List (List ℕ)) → Listed a → Waiting 1 a
 waiting-listed a L = record { own = row a DIST; lists = L; waits = waits-own (row a DIST) (L .within) }
 

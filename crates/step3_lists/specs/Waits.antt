@@ -6,8 +6,8 @@ use Rattle.words.specs.Reads.{at}
 use Rattle.step1_rows.specs.Rows.{row, DIST, HEAD, AFTER}
 use Rattle.step3_lists.specs.Lists.{Place, Lists}
 
--- own says on which list each place is, 0 for none: on no list below b, on some list if its distance is c or more, and on none that comes after its last
--- distance, where it has one
+-- own says on which list each place is, 0 for none: on no list below b, on some list if its distance, 1,000 at most, is c or more, and on none that comes
+-- after its last distance, where it has one
 pub record Waits (b c : ℕ) (own : List ℕ) (dist last : ℕ → ℕ) : Type 0 where
   pub low : (i : ℕ) → Place i → dist i ≤ 1000
   pub above : (i : ℕ) → Place i → 1 ≤ at own i → b ≤ at own i

@@ -17,7 +17,7 @@ use Rattle.slots.proofs.Laws.{put-length, put-same, put-other}
 use Rattle.refine.specs.Refine.{has, nextOf, stayer}
 use Rattle.refine.specs.Links.{back, Linked}
 use Rattle.refine.specs.Leaving.{Known}
-use Rattle.refine.proofs.Queues.{has-is, is-has, lined-before}
+use Rattle.refine.proofs.Queues.{has-is, is-has}
 use Rattle.refine.proofs.Next.{next-length}
 use Rattle.refine.proofs.Links.{gap-nearest, back-before, gap-agrees, back-agrees}
 use Rattle.refine.proofs.Moved.{stayer-is, stays-stayer, next-moved, next-kept, kept-same, next-name}
@@ -26,6 +26,7 @@ use Rattle.step6_leave.proofs.Stores.{joined-some, joined-none}
 use Rattle.step7_moves.specs.Relink.{Place, codes, Past}
 use Rattle.step7_moves.specs.Moving.{Lead}
 use Rattle.step7_moves.proofs.OneMove.{gap-free}
+use Rattle.step7_moves.proofs.Prior.{past-before}
 
 -- ---- the least position of any code k, where i gets another code x: it stays if one is before i, and else it is the next
 
@@ -151,9 +152,8 @@ module _ {t Q : List ℕ} {n : ℕ} (K : Known t Q n) where
         behind = below;
         same = λ h.
             let m = next-moved t Q (K .least) (K .lined) i (back u i) (w .0) (omega (arith, w .1)) h (omega (arith, w .1)) moves (B .same h) in
-            let p = has-is Q (back u i) (m .0) in
-            let r = lined-before Q t (K .lined) (p .0) (suc q) (p .1) (p .2) (omega arith) b (ap (λ (v : ℕ). at t (suc v)) (p .3) ∙ m .2) (omega (arith, p .3)) in
-            codes-done q (back u i) (omega arith) h (p .0, p .1, omega (arith, r), p .3) ∙ ap (λ (v : ℕ). 1000 + v) (B .same h);
+            let here : Past Q (suc q) i = (suc q, omega arith, omega arith, refl) in
+            codes-done q (back u i) (omega arith) h (past-before q K b here (omega arith) (m .0) below (m .2)) ∙ ap (λ (v : ℕ). 1000 + v) (B .same h);
         free = λ j l m e. B .free j l m (codes-moved q j (at u i) (omega arith) (omega arith) (omega (arith, w .1)) some e .1);
       }
 

@@ -26,6 +26,14 @@ past-inside K b p = let w = K .lined .inside (p .0) (p .1) (omega (arith, p .2))
 pub past-has : (S : List ℕ) (s j : ℕ) → s ≤ length S → Past S s j → has S j ≡ true
 past-has S s j b p = rw (p .3) at (is-has S (p .0) (p .1) (omega (arith, p .2)))
 
+-- the queue goes by position where the names to the right are the same: what lies before a position that has moved moved before it
+pub past-before : {t S : List ℕ} {n s j k : ℕ} (q : ℕ) → Known t S n → s ≤ length S → (p : Past S s k) → p .0 ≤ suc q → has S j ≡ true → j < k → at t (suc j) ≡ at t (suc k) → Past S q j
+past-before {t} {S} {j = j} q K b p l h m e =
+    let r = has-is S j h in
+    let same : at t (suc (at S (r .0))) ≡ at t (suc (at S (p .0))) = rw (r .3, p .3) e in
+    let before = lined-before S t (K .lined) (r .0) (p .0) (r .1) (r .2) (p .1) (omega (arith, p .2)) same (omega (arith, r .3, p .3)) in
+    (r .0, r .1, omega (arith, before), r .3)
+
 -- none of the first s places left the group k as i does
 pub record Alone (t S : List ℕ) (s i k : ℕ) : Type 0 where
   pub free : (j : ℕ) → Past S s j → at t j ≡ k → at t (suc j) ≢ at t (suc i)
@@ -36,7 +44,7 @@ module _ {t S : List ℕ} {n s i k : ℕ} (K : Known t S n) (N : Next t S s i k)
   abbrev u : List ℕ
   u = nextOf t S
 
-  pub next-past : Past S (suc s) i
+  abbrev pub next-past : Past S (suc s) i
   next-past = (suc s, omega arith, omega arith, N .is)
 
   pub next-low : 1 ≤ i
@@ -75,10 +83,7 @@ module _ {t S : List ℕ} {n s i k : ℕ} (K : Known t S n) (N : Next t S s i k)
   next-earlier : (p : ℕ) → 1 ≤ p → p < i → at u p ≡ at u i → Past S s p × (at t p ≡ k) × (at t (suc p) ≡ at t (suc i))
   next-earlier p a l e =
       let m = alike p a (omega (arith, next-high)) e in
-      let w = has-is S p (m .0) in
-      let same : at t (suc (at S (w .0))) ≡ at t (suc (at S (suc s))) = rw (w .3, N .is) (m .2) in
-      let early = lined-before S t (K .lined) (w .0) (suc s) (w .1) (w .2) (omega arith) (N .more) same (omega (arith, w .3, N .is)) in
-      ((w .0, w .1, omega (arith, early), w .3), m .1 ∙ N .of, m .2)
+      (past-before s K (N .more) next-past (omega arith) (m .0) l (m .2), m .1 ∙ N .of, m .2)
 
   -- ---- a position that begins a part
 

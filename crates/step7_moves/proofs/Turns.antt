@@ -19,12 +19,13 @@ use Rattle.step1_rows.specs.Rows.{row, putAt, among, NAME, SIZE, DIST, QUE, TAI
 use Rattle.step1_rows.proofs.Laws.{only-none}
 use Rattle.step3_lists.specs.Lists.{Place}
 use Rattle.step3_lists.specs.Filed.{Changed}
-use Rattle.step3_lists.proofs.Waits.{waits-last}
+use Rattle.step3_lists.proofs.Changing.{waiting-last}
 use Rattle.refine.specs.Refine.{has, nextOf}
 use Rattle.refine.specs.Phases.{Bare}
 use Rattle.refine.specs.Leaving.{Known, paired, leaving}
 use Rattle.refine.proofs.Queues.{has-is, has-inside, lined-once}
-use Rattle.refine.proofs.Next.{next-length}
+use Rattle.refine.proofs.Next.{next-length, next-refines}
+use Rattle.refine.proofs.Links.{gap-grows}
 use Rattle.refine.proofs.Leaving.{leaving-grow, leaving-stay, leaving-few, leaving-inside, leaving-at, leaving-from, from-at, leaving-lined}
 use Rattle.step6_leave.specs.Gone.{Leavable, Gone, begunAt, countedAt, Joinable}
 use Rattle.step7_moves.specs.Relink.{Past, codes}
@@ -33,7 +34,6 @@ use Rattle.step7_moves.specs.Moves.{Movable, Moved}
 use Rattle.step7_moves.specs.Moving.{MovedTo, leftBy, Moving, Turn}
 use Rattle.step7_moves.proofs.Prior.{past-has}
 use Rattle.step7_moves.proofs.Codes.{codes-linked, lead-last}
-use Rattle.step7_moves.proofs.Late.{late-inside, late-first}
 use Rattle.step7_moves.proofs.Parted.{reached-none, reached-all, reached-part, parted-few, tail-end, tail-few, tail-split, tail-paired, size-paired, size-some}
 use Rattle.step7_moves.proofs.Stepped.{out-row}
 use Rattle.step7_moves.proofs.MovedOn.{move-asks, moved-first, moved-begin, join-asks, moved-join}
@@ -48,7 +48,7 @@ moved-end {t} {S} {n} {s = s} {a = a} K bare all M =
       links = codes-linked K (rw all at (M .links));
       prev-beyond = M .prev-beyond;
       dist-beyond = M .dist-beyond;
-      waits = record { own = M .waits .own; lists = M .waits .lists; waits = waits-last (M .waits .waits) (at (row a DIST)) ended };
+      waits = waiting-last a (M .waits) (at (row a DIST)) ended;
       sizes = record {
         long = M .long .each SIZE (omega arith);
         held = λ k b d. omega (arith, M .parted .left k b d, reached-all t S k (K .lined), ap (λ (v : ℕ). reached t S v k) all);
@@ -115,9 +115,9 @@ module _ {n m w : ℕ} {o : List (List ℕ)} (R : Movable n m w o) where
   -- who waits at this width waits for the next, as no distance falls
   begun-early : (i : ℕ) → Place i → 1 ≤ at (R .waits .own) i → 1 ≤ gap (nextOf t (leaving t Q)) i → at (R .waits .own) i ≤ gap (nextOf t (leaving t Q)) i
   begun-early i p l m =
-      let f = late-first known i (p .0) m in
-      let e = R .links .next i (p .0) (late-inside known i (p .0) m) in
-      omega (arith, f .1, e, R .waits .waits .early i p l (omega (arith, f .0, e)))
+      let f = gap-grows t (nextOf t (leaving t Q)) (next-refines t (leaving t Q)) i (p .0) m in
+      let e = R .links .next i (p .0) (omega (arith, f .0, next-length t (leaving t Q))) in
+      omega (arith, f .2, e, R .waits .waits .early i p l (omega (arith, f .1, e)))
 
   pub moving-start : Moving n m w o o 0 0 0
   unfolding codes gather
@@ -127,7 +127,7 @@ module _ {n m w : ℕ} {o : List (List ℕ)} (R : Movable n m w o) where
         moved = record {
           long = R .long;
           names = refl;
-          waits = record { own = R .waits .own; lists = R .waits .lists; waits = waits-last (R .waits .waits) (gap (nextOf t (leaving t Q))) begun-early };
+          waits = waiting-last o (R .waits) (gap (nextOf t (leaving t Q))) begun-early;
           links = R .links;
           prev-beyond = R .prev-beyond;
           dist-beyond = λ i a b. refl;

@@ -12,7 +12,7 @@ use Rattle.refine.specs.Links.{Linked}
 use Rattle.refine.specs.Phases.{Bare, Kept, Clean, Sized, Stayed, Tails}
 use Rattle.refine.specs.Leaving.{Begins, Splits, PartsIn, GroupsIn}
 
--- the rows before the pass: a queue of m positions of the n, and the list of width w is passed
+-- the rows before it, in the step from width w: a queue of m positions of the n, and the lists begin after w
 pub record Movable (n m w : ℕ) (a : List (List ℕ)) : Type 0 where
   pub few : n ≤ 1000
   pub queued : m ≤ n
