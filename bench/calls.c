@@ -9,6 +9,7 @@
 enum { MOST = SORUNGGYEO_MOST, ALL = 3 * MOST * MOST / 2 };
 static uint8_t in[1 << 20];
 static uint16_t out[3 * 10000], log_[ALL];
+static uint8_t turned[SORUNGGYEO_PRIMER_MOST];
 static uint64_t beside[4 * SORUNGGYEO_PERIODS];
 static size_t numbers, lines, entries;
 
@@ -43,12 +44,19 @@ static void alone(const uint8_t *x, size_t n) { (void)x, (void)n, sorunggyeo_ind
 static void lookup(const uint8_t *x, size_t n) { (void)x, (void)n, sorunggyeo_lookup(beside, 4 * entries, 0); }
 static void claim(const uint8_t *x, size_t n) { sorunggyeo_claim(x, n, 1, n / 2, 2); }
 static void claim_bases(const uint8_t *x, size_t n) { sorunggyeo_claim(x, n, 1, 1, n); }
+static const uint8_t any[SORUNGGYEO_PRIMER_MOST + 1] = "NNNNNNNNNNNNNNNNNNNNNNNNNNNNNNNNNNNNNNNNNNNNNNNNNNNNNNNNNNNN";
+static void find(const uint8_t *x, size_t n) { sorunggyeo_find_primer(x, n, x, 20, out, MOST); }
+static void find_long(const uint8_t *x, size_t n) { sorunggyeo_find_primer(x, n, x, SORUNGGYEO_PRIMER_MOST, out, MOST); }
+static void find_any(const uint8_t *x, size_t n) { sorunggyeo_find_primer(x, n, any, SORUNGGYEO_PRIMER_MOST, out, MOST); }
+static void find_base(const uint8_t *x, size_t n) { sorunggyeo_find_primer(x, n, any, 1, out, MOST); }
+static void turn(const uint8_t *x, size_t n) { (void)n, sorunggyeo_reverse_complement(x, SORUNGGYEO_PRIMER_MOST, turned, SORUNGGYEO_PRIMER_MOST); }
 static void claim_whole(const uint8_t *x, size_t n) { sorunggyeo_claim(x, n, 1, n, 1); }
 
 static const struct { const char *name; void (*before)(const uint8_t *, size_t), (*call)(const uint8_t *, size_t); } calls[] = {
     {"list", nothing, list}, {"runs", nothing, runs}, {"table", nothing, table}, {"log", nothing, own}, {"replay", own, replay}, {"replay_all", all, replay},
     {"list_index", nothing, both}, {"list_index_exact", lined, both_exact}, {"index", lined, alone}, {"lookup", lined, lookup},
-    {"claim", nothing, claim}, {"claim_bases", nothing, claim_bases}, {"claim_whole", nothing, claim_whole}};
+    {"claim", nothing, claim}, {"claim_bases", nothing, claim_bases}, {"claim_whole", nothing, claim_whole},
+    {"find", nothing, find}, {"find_long", nothing, find_long}, {"find_any", nothing, find_any}, {"find_base", nothing, find_base}, {"turn", nothing, turn}};
 
 int main(int argc, char **argv)
 {

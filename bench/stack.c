@@ -8,6 +8,7 @@ enum { ROOM = 1 << 20, FILL = 0xa5, NEAR = 256 };
 static uint8_t stack[ROOM] __attribute__((aligned(4096)));
 static uint8_t read[SORUNGGYEO_MOST];
 static uint16_t out[30000], log_[SORUNGGYEO_LOG_MOST];
+static uint8_t turned[SORUNGGYEO_PRIMER_MOST];
 static uint64_t beside[4 * SORUNGGYEO_PERIODS];
 static size_t moves;
 
@@ -22,11 +23,13 @@ static void make_log(void) { moves = sorunggyeo_log(read, sizeof read, log_, SOR
 static void replay(void) { sorunggyeo_replay(read, sizeof read, log_, 3 * moves, 500, out, 1000); }
 static void claim(void) { sorunggyeo_claim(read, sizeof read, 1, 2, 250); }
 static void motif(void) { sorunggyeo_motif(read, sizeof read, 1, 2, 250); }
+static void find(void) { sorunggyeo_find_primer(read, sizeof read, read, SORUNGGYEO_PRIMER_MOST, out, 1000); }
+static void turn(void) { sorunggyeo_reverse_complement(read, SORUNGGYEO_PRIMER_MOST, turned, SORUNGGYEO_PRIMER_MOST); }
 static void next(void) { sorunggyeo_next(log_, 3 * moves, 0); }
 
 static const struct { const char *name; void (*call)(void); } calls[] = {
     {"list", list}, {"runs", runs}, {"list_index", list_index}, {"list_index, counted first", counted_first}, {"index", index_}, {"lookup", lookup},
-    {"group_table", group_table}, {"log", make_log}, {"replay", replay}, {"claim", claim}, {"motif", motif}, {"next", next}};
+    {"group_table", group_table}, {"log", make_log}, {"replay", replay}, {"claim", claim}, {"motif", motif}, {"find_primer", find}, {"reverse_complement", turn}, {"next", next}};
 
 /* what a call leaves alone within NEAR bytes of the caller's frame is not seen */
 static void *measure(void *unused)

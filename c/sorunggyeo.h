@@ -2,7 +2,7 @@
 
    Positions in a read count from 1; places of lines, entries and bytes count from 0. A read is any bytes; bytes are compared as bytes, but for a
    capital N, a base that could not be read: it equals nothing but itself at its own position. A call answers every input, checks its refusals
-   in the order of their numbers, and touches nothing but the slices that it writes. It holds nothing from call to call, so any number of threads
+   in the order of their numbers, but where it says another, and touches nothing but the slices that it writes. It holds nothing from call to call, so any number of threads
    may call. A pointer with a count of 0 is never followed, and may be null. */
 #ifndef SORUNGGYEO_H
 #define SORUNGGYEO_H
@@ -26,18 +26,21 @@ enum {
     SORUNGGYEO_MOVE = 3,          /* a move of a log: width, name, position */
     SORUNGGYEO_ENTRY = 4,         /* an entry of a period index: period, place of its first line, number of lines, largest copy count */
     SORUNGGYEO_PERIODS = 500,     /* room that does for the entries of any read's list: top(1000) */
-    SORUNGGYEO_LOG_MOST = 29970   /* room that does for the log of any read: 3·M(1000) */
+    SORUNGGYEO_LOG_MOST = 29970,  /* room that does for the log of any read: 3·M(1000) */
+    SORUNGGYEO_PRIMER_MOST = 60   /* the most letters that a primer may have */
 };
 
 enum {
     SORUNGGYEO_OK = 0,
     SORUNGGYEO_TOO_LONG = 1,      /* the read has more than 1,000 bytes; the value is its length; nothing is changed */
     SORUNGGYEO_BAD_NUMBER = 2,    /* the mode or width is none; the value is that number; nothing is changed */
-    SORUNGGYEO_LIST_FULL = 3,     /* the list has room for fewer lines, or runs, than there are; the value is how many there are; the whole list is 0 */
-    SORUNGGYEO_TOO_SHORT = 4,     /* the log or table is too short; the value is the numbers needed; nothing is changed */
+    SORUNGGYEO_LIST_FULL = 3,     /* the list has room for fewer lines, runs or places than there are; the value is how many there are; the whole list is 0 */
+    SORUNGGYEO_TOO_SHORT = 4,     /* the log or table, or the room for letters, is too short; the value is the numbers or letters needed; nothing is changed */
     SORUNGGYEO_BAD_ENTRY = 5,     /* the log is ill-formed; the value is the index of its first bad entry; nothing is changed */
     SORUNGGYEO_OUT_OF_PLACE = 6,  /* the list handed in is not strictly in order, or is cut; the value is the first line out of place; nothing is changed */
-    SORUNGGYEO_INDEX_FULL = 7     /* the index has room for fewer entries than there are; the value is the entries; nothing is changed, the list neither */
+    SORUNGGYEO_INDEX_FULL = 7,    /* the index has room for fewer entries than there are; the value is the entries; nothing is changed, the list neither */
+    SORUNGGYEO_BAD_LENGTH = 8,    /* the primer has no letter, or more than 60; the value is its length; nothing is changed */
+    SORUNGGYEO_FOREIGN = 9        /* the primer has a byte that is no letter of the code; the value is the index of the first, from 0; nothing is changed */
 };
 
 /* what a claim is told: the value of sorunggyeo_claim where it is not refused. There is no 0: a program that took 0 for no must be written anew */
@@ -107,6 +110,15 @@ sorunggyeo_answer sorunggyeo_claim(const uint8_t *read, size_t n, uint32_t start
 /* The motif of a true claim as that part of the read; the root from the claimed start on where the verdict is SORUNGGYEO_CLAIM_SHORTER; the empty part at the read's front
    for any other claim, or a read over the limit. */
 sorunggyeo_part sorunggyeo_motif(const uint8_t *read, size_t n, uint32_t start, uint32_t period, uint32_t copies);
+
+/* All positions at which the primer sits in the read, ascending, one number each, to the front of `places`. Both use the fifteen capital IUPAC letters without U, each a set of
+   bases: the primer sits where the set of each read letter lies inside that of the primer's letter. So N in a read sits under N alone, and any other byte of a read, small letters
+   too, under nothing. A primer longer than the read sits nowhere. The value is the number of places. Refuses by 1, 8, 9, 3, in this order. */
+sorunggyeo_answer sorunggyeo_find_primer(const uint8_t *read, size_t n, const uint8_t *primer, size_t m, uint16_t *places, size_t room);
+
+/* The reverse complement of the primer to the front of `letters`, which must not be the primer itself; taken twice it gives the primer back. The value is the number of letters.
+   Refuses by 8, 9, 4, in this order. */
+sorunggyeo_answer sorunggyeo_reverse_complement(const uint8_t *primer, size_t m, uint8_t *letters, size_t room);
 
 /* The next whole entry of a log as it stands, and the place one further; or that the log has ended, and the place kept. */
 sorunggyeo_move sorunggyeo_next(const uint16_t *log, size_t numbers, size_t at);

@@ -4,9 +4,10 @@
      test claims < READS                       what claims all over every read are told, summed up
      test two_letters                          the runs of all words of A and C up to 12 letters, summed up length by length
      test indexes < READS                      every read's period index, made with the list and from the list alone
+     test primers PRIMERS < READS              the places of the primers that the file PRIMERS has for every read, and their reverse complements
      test tables TABLES < READS                every read's tables at the widths that the file TABLES has
      test calls                                what crates/run_calls prints, and the calls on empty slices that are null
-   Besides, no answer but two has a second value, in `indexes` each period is looked up, in `lists` each line is claimed, also with a copy more or less, and its motif taken, in `runs` each is looked at base by base, in `logs` the log is walked by the reader, and in
+   Besides, no answer but two has a second value, in `indexes` each period is looked up, in `lists` each line is claimed, also with a copy more or less, and its motif taken, in `runs` each is looked at base by base, in `logs` the log is walked by the reader, in `primers` each primer is looked for on the other strand too, and in
    `tables` the replay of the read's own log must give the same table; what fails prints a line that no stored output has. All runs on a thread with as
    small a stack as docs/C.md says will do: a call that takes more ends the program. */
 #include "sorunggyeo.h"
@@ -192,6 +193,53 @@ static void print_index(size_t n)
         expect(e.found && e.place == k && e.first == entry[1] && e.lines == entry[2] && e.largest == entry[3], "a period is looked up");
     }
     expect(!sorunggyeo_lookup(beside, SORUNGGYEO_ENTRY * a.more, 0).found, "no repeat has the period 0");
+}
+
+/* the other strand of a read; a byte that is no letter stays what it is */
+static uint8_t strand[SORUNGGYEO_MOST];
+
+static void turn_read(size_t n)
+{
+    static const char letters[] = "ACGTRYSWKMBDHVN", turned[] = "TGCAYRSWMKVHDBN";
+    for (size_t i = 0; i < n; i++) {
+        const char *at = read[i] ? strchr(letters, read[i]) : NULL;
+        strand[n - 1 - i] = at ? (uint8_t)turned[at - letters] : read[i];
+    }
+}
+
+/* a primer, its reverse complement, its places; and the same places on the other strand */
+static void print_primer(size_t n, const char *letters)
+{
+    const uint8_t *primer = (const uint8_t *)letters;
+    size_t m = strlen(letters);
+    static uint8_t turned[SORUNGGYEO_PRIMER_MOST], back[SORUNGGYEO_PRIMER_MOST];
+    sorunggyeo_answer a = one(sorunggyeo_reverse_complement(primer, m, turned, m)), b = one(sorunggyeo_reverse_complement(turned, m, back, m));
+    expect(a.value == m && b.value == m && !memcmp(primer, back, m), "taken twice it gives the primer back");
+    a = one(sorunggyeo_find_primer(read, n, primer, m, table, SORUNGGYEO_MOST));
+    turn_read(n);
+    b = one(sorunggyeo_find_primer(strand, n, turned, m, other, SORUNGGYEO_MOST));
+    expect(a.number == SORUNGGYEO_OK && b.number == SORUNGGYEO_OK && a.value == b.value, "as many places on the other strand");
+    for (size_t k = 0; k < a.value; k++) expect(table[k] + other[a.value - 1 - k] == n + 2 - m, "each mirrored");
+    printf("%s %.*s", letters, (int)m, (const char *)turned);
+    numbers(table, a.value);
+    if (a.value == 0) return;
+    b = one(sorunggyeo_find_primer(read, n, primer, m, table, a.value - 1));
+    expect(b.number == SORUNGGYEO_LIST_FULL && b.value == a.value && (a.value == 1 || !table[a.value - 2]), "with room for one less, none");
+}
+
+static void print_primers(FILE *stored)
+{
+    size_t n = 0;
+    char word[SORUNGGYEO_PRIMER_MOST + 1];
+    while (fscanf(stored, "%60s", word) == 1) {
+        if (!strcmp(word, "read")) {
+            if (!next_read(&n)) return;
+            printf("read %zu\n", n);
+        } else {
+            print_primer(n, word);
+        }
+        for (int c; (c = getc(stored)) != '\n' && c != EOF;) {}
+    }
 }
 
 static void print_table(size_t n, unsigned width)
@@ -391,6 +439,63 @@ static void claim_calls(void)
     claim_in(read, 1001, UINT32_MAX, UINT32_MAX, UINT32_MAX);
 }
 
+static void find_in(const uint8_t *x, size_t n, const char *u, size_t m, size_t room)
+{
+    begin("find_primer", room);
+    end(sorunggyeo_find_primer(x, n, (const uint8_t *)u, m, slice, room), room);
+}
+
+static void find_on(const char *x, const char *u, size_t room)
+{
+    find_in((const uint8_t *)x, strlen(x), u, strlen(u), room);
+}
+
+static void bytes(const uint8_t *a, size_t n)
+{
+    printf("slice");
+    for (size_t i = 0; i < n; i++) printf(" %u", a[i]);
+    printf("\n");
+}
+
+static void turn_in(const char *u, size_t m, size_t room)
+{
+    static uint8_t letters[61];
+    memset(letters, 7, sizeof letters);
+    printf("reverse_complement\n"), bytes(letters, room);
+    answered(sorunggyeo_reverse_complement((const uint8_t *)u, m, letters, room));
+    bytes(letters, room);
+}
+
+static void turn_on(const char *u, size_t room)
+{
+    turn_in(u, strlen(u), room);
+}
+
+static void primer_calls(void)
+{
+    const char *x = "ACGTACGT", *code = "ABCDGHKMNRSTVWY";
+    static char primer[61], foreign[61];
+    static uint8_t all[256];
+    memset(primer, 'A', 61), memset(foreign, 'A', 61), foreign[59] = 'U';
+    for (int b = 0; b < 256; b++) all[b] = (uint8_t)b;
+    find_on(x, "AC", 3), find_on(x, "AC", 2), find_on(x, "AC", 1), find_on(x, "AC", 0), find_on(x, "RY", 4), find_on(x, "RY", 3), find_on(x, "GT", 2);
+    find_on("AAAA", "AA", 3), find_on("AC", "AC", 1), find_on("AC", "ACG", 1), find_on("AC", "ACG", 0), find_on("", "A", 0), find_on("", "N", 2);
+    for (int k = 0; k < 15; k++) find_in((const uint8_t *)code, 15, code + k, 1, 15);
+    find_on("AUGT", "N", 4), find_on("acgtn", "N", 5), find_on("A C", "NNN", 1), find_on("A C", "N", 3);
+    find_on("ANGT", "N", 4), find_on("ANGT", "A", 4), find_on("ANGT", "AB", 4), find_on("ANGT", "AN", 4);
+    find_in((const uint8_t *)"A\0C", 3, "N", 1, 3), find_in((const uint8_t *)"A\0C", 3, "NNN", 3, 1), find_in(all, 256, "N", 1, 16), find_in(all, 256, "B", 1, 14);
+    find_on("AAAA", "U", 0), find_on("AAAA", "aA", 1), find_on("AAAA", "Aa", 1), find_on("AAAA", "ANnU", 0), find_on("AAAA", "A A", 2);
+    turn_on("U", 0), turn_on("ACn", 2), turn_on("A.CU", 4);
+    const uint8_t *four = (const uint8_t *)"AAAA";
+    find_on("AAAA", "", 4), find_on("AAAA", "", 0), find_on("", "", 0);
+    find_in(four, 4, primer, 60, 1), find_in(four, 4, primer, 61, 1), find_in(four, 4, foreign, 60, 1), find_in(four, 4, foreign, 61, 0);
+    turn_on("", 1), turn_on("", 0), turn_in(primer, 60, 60), turn_in(primer, 60, 59), turn_in(primer, 61, 61), turn_in(foreign, 60, 59), turn_in(foreign, 61, 0);
+    memset(read, 'A', WIDE);
+    find_in(read, 1000, "A", 1, 1000), find_in(read, 1000, "A", 1, 999), find_in(read, 1000, primer, 60, 941), find_in(read, 1000, primer, 60, 940), find_in(read, 1000, "C", 1, 0);
+    find_in(read, 1001, "A", 1, 3), find_in(read, 1001, "", 0, 2), find_in(read, 1001, foreign, 61, 0);
+    turn_on("ACN", 4), turn_on("ACN", 3), turn_on("ACN", 2), turn_on("ACN", 0), turn_on("A", 1), turn_on("ACGT", 4), turn_on(code, 15), turn_on("RWBASYNKMDCHGVT", 15);
+}
+
 /* a list of more lines than a u16 number can count: 70,000, of seven periods */
 static void long_list(void)
 {
@@ -452,7 +557,7 @@ static void long_calls(void)
 
 static void byte_calls(void)
 {
-    char all[256];
+    static char all[256];
     for (int b = 0; b < 256; b++) all[b] = (char)b;
     list_on(all, 256, 0, 3), table_on(all, 256, 1, 257), log_on(all, 256, 6885);
 }
@@ -484,6 +589,13 @@ static void null_calls(void)
     expect(!sorunggyeo_lookup(NULL, 0, 0).found, "an empty index has no entry");
 }
 
+static void null_primers(void)
+{
+    const uint8_t *aaaa = (const uint8_t *)"AAAA";
+    same(sorunggyeo_find_primer(NULL, 0, NULL, 0, NULL, 0), 8, 0), same(sorunggyeo_find_primer(NULL, 0, aaaa, 4, NULL, 0), 0, 0), same(sorunggyeo_find_primer(aaaa, 4, aaaa, 4, NULL, 0), 3, 1);
+    same(sorunggyeo_reverse_complement(NULL, 0, NULL, 0), 8, 0), same(sorunggyeo_reverse_complement(aaaa, 4, NULL, 0), 4, 4);
+}
+
 static int run(int argc, char **argv)
 {
     const char *what = argc > 1 ? argv[1] : "";
@@ -506,8 +618,12 @@ static int run(int argc, char **argv)
         FILE *stored = fopen(argv[2], "r");
         if (!stored) return 1;
         print_tables(stored);
+    } else if (!strcmp(what, "primers") && argc > 2) {
+        FILE *stored = fopen(argv[2], "r");
+        if (!stored) return 1;
+        print_primers(stored);
     } else if (!strcmp(what, "calls")) {
-        short_calls(), long_calls(), byte_calls(), index_calls(), unread_calls(), runs_calls(), claim_calls(), null_calls(), long_list();
+        short_calls(), long_calls(), byte_calls(), index_calls(), unread_calls(), runs_calls(), claim_calls(), primer_calls(), null_calls(), null_primers(), long_list();
     } else {
         return 1;
     }

@@ -3,8 +3,8 @@
 import re
 from itertools import groupby
 from reads import Dice, DNA, every, few_unread, fibonacci, known, partial
-from rules import (LIMIT, LINES, answer_claim, answer_group_table, answer_index, answer_list, answer_list_index, answer_log,
-                   answer_replay, answer_runs, entries, flat, groups_of, lines_of_groups, log, lookup, motif, moves, printed, replay, repeats, runs, small, table, top)
+from rules import (LIMIT, LINES, answer_claim, answer_find, answer_group_table, answer_index, answer_list, answer_list_index, answer_log,
+                   answer_replay, answer_runs, answer_turn, entries, flat, groups_of, lines_of_groups, log, lookup, motif, moves, printed, replay, repeats, runs, small, table, top)
 
 def text(reads):
     return b"".join(x + b"\n" for x in reads)
@@ -147,8 +147,42 @@ def claim_calls():
     for claim_of in [(1, 1, 1001), (0, 1, 2), (1, 0, 2), (1, 2, 0), (top32, top32, top32)]:
         yield claimed(b"A" * 1001, *claim_of)
 
+CODE = b"ABCDGHKMNRSTVWY"
+
+def primer_calls():
+    # document 02, item 6
+    primer, foreign = b"A" * 61, b"A" * 59 + b"UA"
+    def find(x, u, n):
+        return sevens("find_primer", lambda out: answer_find(x, u, out), n)
+    def turn(u, n):
+        return sevens("reverse_complement", lambda out: answer_turn(u, out), n)
+    x = b"ACGTACGT"
+    for found in [(x, b"AC", 3), (x, b"AC", 2), (x, b"AC", 1), (x, b"AC", 0), (x, b"RY", 4), (x, b"RY", 3), (x, b"GT", 2), (b"AAAA", b"AA", 3),
+                  (b"AC", b"AC", 1), (b"AC", b"ACG", 1), (b"AC", b"ACG", 0), (b"", b"A", 0), (b"", b"N", 2)]:
+        yield find(*found)
+    for letter in CODE:
+        yield find(CODE, bytes([letter]), 15)
+    # bytes of a read that are no letters of the code
+    for found in [(b"AUGT", b"N", 4), (b"acgtn", b"N", 5), (b"A C", b"NNN", 1), (b"A C", b"N", 3), (b"ANGT", b"N", 4), (b"ANGT", b"A", 4), (b"ANGT", b"AB", 4), (b"ANGT", b"AN", 4),
+                  (b"A\0C", b"N", 3), (b"A\0C", b"NNN", 1), (bytes(range(256)), b"N", 16), (bytes(range(256)), b"B", 14)]:
+        yield find(*found)
+    for u, n in [(b"U", 0), (b"aA", 1), (b"Aa", 1), (b"ANnU", 0), (b"A A", 2)]:
+        yield find(b"AAAA", u, n)
+    for u, n in [(b"U", 0), (b"ACn", 2), (b"A.CU", 4)]:
+        yield turn(u, n)
+    for found in [(b"AAAA", b"", 4), (b"AAAA", b"", 0), (b"", b"", 0), (b"AAAA", primer[:60], 1), (b"AAAA", primer, 1), (b"AAAA", foreign[:60], 1), (b"AAAA", foreign, 0)]:
+        yield find(*found)
+    for u, n in [(b"", 1), (b"", 0), (primer[:60], 60), (primer[:60], 59), (primer, 61), (foreign[:60], 59), (foreign, 0)]:
+        yield turn(u, n)
+    within, over = b"A" * 1000, b"A" * 1001
+    for found in [(within, b"A", 1000), (within, b"A", 999), (within, primer[:60], 941), (within, primer[:60], 940), (within, b"C", 0),
+                  (over, b"A", 3), (over, b"", 2), (over, foreign, 0)]:
+        yield find(*found)
+    for u, n in [(b"ACN", 4), (b"ACN", 3), (b"ACN", 2), (b"ACN", 0), (b"A", 1), (b"ACGT", 4), (CODE, 15), (b"RWBASYNKMDCHGVT", 15)]:
+        yield turn(u, n)
+
 def run_calls():
-    return "".join([*short_calls(), *long_calls(), *byte_calls(), *index_calls(), *unread_calls(), *runs_calls(), *claim_calls()]).encode()
+    return "".join([*short_calls(), *long_calls(), *byte_calls(), *index_calls(), *unread_calls(), *runs_calls(), *claim_calls(), *primer_calls()]).encode()
 
 def row(word, numbers):
     return "  %s %s\n" % (word, " ".join(map(str, numbers)))

@@ -1,4 +1,6 @@
-# The reads that the stored results are made from: known, Fibonacci words, seeded ones, reads with unread bases and with partial copies.
+# The reads that the stored results are made from: known, Fibonacci words, seeded ones, reads with unread bases and with partial copies; and the primers looked for in them.
+
+from rules import BASES, reverse_complement
 
 ROUNDS = 33  # reads of each seeded kind
 DNA = b"ACGT"
@@ -111,6 +113,19 @@ def unread():
 # document 02, item 3: document 004's word, runs of one period that overlap by one base or more, two periods and a part, a part of one base, an end in byte 0
 def partial():
     return [b"1011010110110", b"AACAACCACC", b"AACAACACAC", b"ACACA", b"ACGACGA", b"GACACACT", b"ACGTACGTACG", b"ACACGACAC", b"CACA\0\0", b"A\0A\0A\0"]
+
+# document 02, item 6: primers to look for in a read: a stretch of it, the same with letters that let in more, on the other strand, the end of the read, and two short ones
+def primers(dice, x):
+    letters = bytes(BASES)
+    own = bytes(b if b in BASES else ord("N") for b in x)
+    found = [dice.word(letters, dice.between(1, 3)), dice.word(DNA, dice.between(1, 2))]
+    if x:
+        m = dice.between(1, min(60, len(x)))
+        i = dice.below(len(x) - m + 1)
+        u = own[i:i + m]
+        wider = bytes(dice.word([c for c in letters if BASES[b] <= BASES[c]], 1)[0] for b in u)
+        found += [u, wider, reverse_complement(u), own[-m:]]
+    return found
 
 def every():
     return known() + fibonacci() + seeded() + unread() + partial()

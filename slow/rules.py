@@ -160,6 +160,22 @@ def runs(x):
         before = here
     return sorted(found, key=lambda line: (line[2], line[0]))
 
+# document 02, item 6: the bases that each letter stands for, by name
+BASES = {letter: set(bases) for letter, bases in zip(b"ACGTRYSWKMBDHVN", [b"A", b"C", b"G", b"T", b"AG", b"CT", b"CG", b"AT", b"GT", b"AC", b"CGT", b"AGT", b"ACT", b"ACG", b"ACGT"])}
+OTHER_STRAND = bytes.maketrans(b"ACGTRYSWKMBDHVN", b"TGCAYRSWMKVHDBN")
+LONGEST = 60  # the most letters of a primer
+
+def sits(x, u, i):
+    there = x[i - 1:i - 1 + len(u)]
+    # a byte of the read that is no letter matches nothing, and a stretch cut short by the read's end is too short
+    return len(there) == len(u) and all(b in BASES and BASES[b] <= BASES[c] for b, c in zip(there, u))
+
+def places(x, u):
+    return [i for i in range(1, len(x) + 1) if sits(x, u, i)]
+
+def reverse_complement(u):
+    return u[::-1].translate(OTHER_STRAND)
+
 def front(numbers, buffer):
     return numbers + buffer[len(numbers):]
 
@@ -221,6 +237,25 @@ def answer_replay(x, numbers, w, buffer):
 def answer_claim(x, i, p, e):
     if len(x) > LIMIT: return 1, (len(x), 0)
     return 0, verdict(x, i, p, e)  # this call is lent no buffer
+
+def bad_primer(u):
+    if not 1 <= len(u) <= LONGEST: return 8, len(u)
+    foreign = [k for k, letter in enumerate(u) if letter not in BASES]
+    return (9, foreign[0]) if foreign else None
+
+def answer_find(x, u, buffer):
+    if len(x) > LIMIT: return 1, len(x), buffer
+    bad = bad_primer(u)
+    if bad: return (*bad, buffer)
+    found = places(x, u)
+    if len(buffer) < len(found): return 3, len(found), [0] * len(buffer)
+    return 0, len(found), front(found, buffer)
+
+def answer_turn(u, buffer):
+    bad = bad_primer(u)
+    if bad: return (*bad, buffer)
+    if len(buffer) < len(u): return 4, len(u), buffer
+    return 0, len(u), front(list(reverse_complement(u)), buffer)
 
 def printed(x, mode):
     number, value, buffer = answer_list(x, mode, [0] * (3 * LINES))

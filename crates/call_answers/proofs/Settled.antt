@@ -6,6 +6,8 @@ use Rattle.call_answers.proofs.tabled.Reads as tabled
 use Rattle.call_answers.proofs.logged.Reads as logged
 use Rattle.call_answers.proofs.replayed.Reads as replayed
 use Rattle.call_answers.proofs.claimed.Reads as claimed
+use Rattle.call_answers.proofs.placed.Reads as placed
+use Rattle.call_answers.proofs.turned.Reads as turned
 use Rattle.call_answers.proofs.taken.Reads as taken
 use Rattle.call_answers.proofs.indexed.Reads as indexed
 use Rattle.call_answers.proofs.list_indexed.Reads as list-indexed
@@ -28,6 +30,12 @@ replayed-settled κs a x y e f p q = p ∙ sym q
 
 pub claimed-settled : (κs : _) (a : _) (x y : _) (e f : _) → claimed.Learnt κs a x e → claimed.Learnt κs a y f → x ≡ y
 claimed-settled κs a x y e f p q = p ∙ sym q
+
+pub placed-settled : (κs : _) (a : _) (x y : _) (e f : _) → placed.Learnt κs a x e → placed.Learnt κs a y f → x ≡ y
+placed-settled κs a x y e f p q = p ∙ sym q
+
+pub turned-settled : (κs : _) (a : _) (x y : _) (e f : _) → turned.Learnt κs a x e → turned.Learnt κs a y f → x ≡ y
+turned-settled κs a x y e f p q = p ∙ sym q
 
 pub taken-settled : (κs : _) (a : _) (x y : _) (e f : _) → taken.Learnt κs a x e → taken.Learnt κs a y f → x ≡ y
 taken-settled κs a x y e f p q = p ∙ sym q

@@ -1,5 +1,5 @@
 // The answers of the public calls in the documents' numbers: the one place in code where a case becomes a number and its values.
-// What each case says stands in the definitions of words, specs/Answers.antt, and of words_index, words_runs and words_claims, specs/Calls.antt; `plain` puts it side by side.
+// What each case says stands in the definitions of words, specs/Answers.antt, and of words_index, words_runs, words_claims and words_primers, specs/Calls.antt; `plain` puts it side by side.
 ghost use mathlib.Core.Path.{_≡_};
 ghost use Rattle.words.specs.Answers.{listedSays, tabledSays, loggedSays, replayedSays};
 ghost use Rattle.words.specs.Answers.{success as saysSuccess, both as saysBoth, refusal as saysRefusal};
@@ -7,6 +7,7 @@ ghost use Rattle.words_index.specs.Calls.{indexedSays, listIndexedSays};
 ghost use Rattle.words_index.specs.declared.Looked.{Looked};
 ghost use Rattle.words_runs.specs.Calls.{runsListedSays};
 ghost use Rattle.words_claims.specs.Calls.{claimedSays};
+ghost use Rattle.words_primers.specs.Calls.{placedSays, turnedSays};
 ghost use Rattle.call_answers.specs.Plain.{plain, plainMove, plainLooked};
 use words::Entry;
 use words::Listed;
@@ -18,6 +19,8 @@ use words_claims::Claimed;
 use words_index::Indexed;
 use words_index::ListIndexed;
 use words_index::Looked;
+use words_primers::Placed;
+use words_primers::Turned;
 use words_runs::RunsListed;
 
 // An answer: its number, 0 for success and else the refusal's, and the values returned with it, 0 for each that it has not.
@@ -151,6 +154,31 @@ pub fn claimed(a: Claimed) -> Answer
         Claimed::Shorter(root) => both(3, root),
         Claimed::Outside => success(4),
         Claimed::TooLong(long) => refusal(1, long),
+    }
+}
+
+// what `find_primer` answers
+pub fn placed(a: Placed) -> Answer
+    ensures { λ r. ⌜ r ≡ plain (placedSays a) ⌝ }
+{
+    match a {
+        Placed::Places(count) => success(count),
+        Placed::TooLong(long) => refusal(1, long),
+        Placed::BadLength(letters) => refusal(8, letters),
+        Placed::Foreign(index) => refusal(9, index),
+        Placed::ListFull(count) => refusal(3, count),
+    }
+}
+
+// what `reverse_complement` answers
+pub fn turned(a: Turned) -> Answer
+    ensures { λ r. ⌜ r ≡ plain (turnedSays a) ⌝ }
+{
+    match a {
+        Turned::Letters(count) => success(count),
+        Turned::BadLength(letters) => refusal(8, letters),
+        Turned::Foreign(index) => refusal(9, index),
+        Turned::NoRoom(needed) => refusal(4, needed),
     }
 }
 

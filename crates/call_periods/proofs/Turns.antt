@@ -16,7 +16,7 @@ use Rattle.row_cells.specs.Listing.{Adds}
 use Rattle.row_cells.proofs.Adding.{adds-none, adds-next}
 use Rattle.slots.specs.Slots.{putSome}
 use Rattle.step2_bits.specs.Sets.{First, Where}
-use Rattle.step2_bits.proofs.Digits.{one-zero}
+use Rattle.bits.proofs.Digits.{one-zero}
 use Rattle.step2_bits.proofs.Emptying.{done, After, Taken, done-some, done-none, done-high, after-none, done-on, between, gather-on, taken, taken-inside}
 use Rattle.start_lines.specs.Lines.{Counted}
 use Rattle.call_periods.specs.Periods.{rowSize, rowIn, rowsIn, Kept}

@@ -15,9 +15,9 @@ use Rattle.words.specs.Answers.{Answer, success, refusal, replayedSays}
 use Rattle.words.specs.Calls.{refuse, tooLong, replayAnswer, replayLeaves}
 use Rattle.words.specs.declared.Replayed.{Replayed}
 use Rattle.words.proofs.Tests.{or-fails-left, or-fails-right}
+use Rattle.words.proofs.Within.{within-is}
 use Rattle.words.proofs.Afterwards.{refused-same, success-front}
 use Rattle.words.proofs.Replay.{replay-least}
-use Rattle.call_judges.proofs.Judging.{within-is}
 
 -- ---- the tests
 

@@ -8,7 +8,7 @@ use mathlib.Core.List.{List, []}
 use native.Mathlib.Omega.{arith}
 use lib.ListN.{length}
 use lib.Dec.{eqb}
-use borrow.Author.Tests.{lt-ltb, le-ltb, le-leb, lt-leb, eq-eqb, ne-eqb}
+use borrow.Author.Tests.{lt-ltb, le-ltb, eq-eqb, ne-eqb}
 use Rattle.words.specs.Rows.{rows}
 use Rattle.words.specs.Reads.{most}
 use Rattle.words.specs.Lists.{lineSize, lines, lineCount, inMode}
@@ -26,9 +26,13 @@ use Rattle.words_claims.specs.Calls.{verdict, claimedSays, claimAnswer}
 use Rattle.words_claims.specs.declared.Claimed.{Claimed}
 use Rattle.words_claims.proofs.Verdicts.{tells-long}
 use Rattle.words_claims.proofs.Truth.{Says, told-if-so}
+use Rattle.words_primers.specs.Primers.{longest, firstForeign, places, reverseComplement}
+use Rattle.words_primers.specs.Calls.{findAnswer, findLeaves, turnAnswer, turnLeaves}
+use Rattle.words_primers.proofs.Judged.{length-judged, foreign-judged, good-judged}
 use Rattle.words.proofs.Tests.{either, or-left, or-right, lt-or-ge}
+use Rattle.words.proofs.Within.{within-yes, within-no}
 use Rattle.words.proofs.Afterwards.{success-front, success-list, list-full, refused-same, refused-list}
-use Rattle.lister.proofs.Refusals.{Row, rowAt, Follows, By, listRows, runsRows, tableRows, logRows, ReplayWidth, replayRows, claimRows, indexRows, bothRows, listIndexRows, besideRows}
+use Rattle.lister.proofs.Refusals.{Row, rowAt, Follows, By, listRows, runsRows, tableRows, logRows, ReplayWidth, replayRows, claimRows, GoodPrimer, BadLength, HasForeign, findRows, turnRows, indexRows, bothRows, listIndexRows, besideRows}
 
 -- where some row holds and each that holds is followed, the answer goes by the table
 goes-by : (t : List Row) (a : Answer) (s : List ℕ) → (k : ℕ) × rowAt t k .when → Follows t a s → By t a s
@@ -52,17 +56,6 @@ module _ (x : List ℕ) where
   unfolding tooLong
   long-no h = le-ltb most (length x) h
 
--- a number is one of a to b, or it is not
-module _ (a b v : ℕ) where
-  in-yes : a ≤ v → v ≤ b → within a b v ≡ true
-  unfolding within
-  in-yes h l = cc (le-leb a v h, le-leb v b l)
-
-  in-no : (v < a) ⊎ (b < v) → within a b v ≡ false
-  unfolding within
-  in-no (inl h) = rw (lt-leb a v h)
-  in-no (inr h) = ⊎-elim (λ l. rw (lt-leb a v l)) (λ l. rw (le-leb a v l, lt-leb v b h)) (lt-or-ge v a)
-
 -- ---- the calls
 
 module _ (x : List ℕ) (mode : ℕ) (out : List ℕ) where
@@ -83,10 +76,10 @@ module _ (x : List ℕ) (mode : ℕ) (out : List ℕ) where
       which (inr h) (inr m) (inr l) = (0, (h, m, l))
 
       gives : Follows (listRows x mode out) (listAnswer x mode out) (listLeaves x mode out)
-      gives zero w = rw (long-no x (w .0), in-yes 0 1 mode (omega arith) (w .1), le-ltb (rows lineSize out) count (w .2)) (refl, success-list made out count)
+      gives zero w = rw (long-no x (w .0), within-yes 0 1 mode (omega arith) (w .1), le-ltb (rows lineSize out) count (w .2)) (refl, success-list made out count)
       gives (suc zero) w = rw (long-yes x w) (refl, refused-list made out 1 (length x) refl refl)
-      gives (suc (suc zero)) w = rw (long-no x (w .0), in-no 0 1 mode (inr (w .1))) (refl, refused-list made out 2 mode refl refl)
-      gives (suc (suc (suc zero))) w = rw (long-no x (w .0), in-yes 0 1 mode (omega arith) (w .1), lt-ltb (rows lineSize out) count (w .2)) (refl, list-full made out count)
+      gives (suc (suc zero)) w = rw (long-no x (w .0), within-no 0 1 mode (inr (w .1))) (refl, refused-list made out 2 mode refl refl)
+      gives (suc (suc (suc zero))) w = rw (long-no x (w .0), within-yes 0 1 mode (omega arith) (w .1), lt-ltb (rows lineSize out) count (w .2)) (refl, list-full made out count)
       gives (suc (suc (suc (suc k)))) w = absurd w
 
 module _ (x out : List ℕ) where
@@ -119,11 +112,11 @@ module _ (x : List ℕ) (w : ℕ) (out : List ℕ) where
       which (inr h) (inr a) (inr b) (inr r) = (0, (h, a, b, r))
 
       gives : Follows (tableRows x w out) (tableAnswer x w out) (tableLeaves x w out)
-      gives zero h = rw (long-no x (h .0), in-yes 1 (length x) w (h .1) (h .2), le-ltb (length out) (length x) (h .3)) (refl, success-front (table x w) out (length x))
+      gives zero h = rw (long-no x (h .0), within-yes 1 (length x) w (h .1) (h .2), le-ltb (length out) (length x) (h .3)) (refl, success-front (table x w) out (length x))
       gives (suc zero) h = rw (long-yes x h) (refl, refused-same (table x w) out 1 (length x) refl)
-      gives (suc (suc zero)) h = rw (long-no x (h .0), in-no 1 (length x) w (h .1)) (refl, refused-same (table x w) out 2 w refl)
+      gives (suc (suc zero)) h = rw (long-no x (h .0), within-no 1 (length x) w (h .1)) (refl, refused-same (table x w) out 2 w refl)
       gives (suc (suc (suc zero))) h = absurd h
-      gives (suc (suc (suc (suc zero)))) h = rw (long-no x (h .0), in-yes 1 (length x) w (h .1) (h .2), lt-ltb (length out) (length x) (h .3)) (refl, refused-same (table x w) out 4 (length x) refl)
+      gives (suc (suc (suc (suc zero)))) h = rw (long-no x (h .0), within-yes 1 (length x) w (h .1) (h .2), lt-ltb (length out) (length x) (h .3)) (refl, refused-same (table x w) out 4 (length x) refl)
       gives (suc (suc (suc (suc (suc k))))) h = absurd h
 
 module _ (x out : List ℕ) where
@@ -147,10 +140,10 @@ module _ (x out : List ℕ) where
 module _ (x l : List ℕ) (w : ℕ) (out : List ℕ) where
   width-bad : (length x ≡ 0) ⊎ ((w < 1) ⊎ (topOf (length x) < w)) → eqb (length x) 0 || not (within 1 (topOf (length x)) w) ≡ true
   width-bad (inl e) = or-left (eqb (length x) 0) _ (eq-eqb (length x) 0 e)
-  width-bad (inr m) = or-right (eqb (length x) 0) _ (ap not (in-no 1 (topOf (length x)) w m))
+  width-bad (inr m) = or-right (eqb (length x) 0) _ (ap not (within-no 1 (topOf (length x)) w m))
 
   width-good : ReplayWidth (length x) w → eqb (length x) 0 || not (within 1 (topOf (length x)) w) ≡ false
-  width-good h = rw (ne-eqb (length x) 0 (omega (arith, h .0)), in-yes 1 (topOf (length x)) w (h .1) (h .2))
+  width-good h = rw (ne-eqb (length x) 0 (omega (arith, h .0)), within-yes 1 (topOf (length x)) w (h .1) (h .2))
 
   pub replay-by : By (replayRows x l w out) (replayAnswer x l w out) (replayLeaves x l w out)
   unfolding replayAnswer replayLeaves refuse success refusal
@@ -197,6 +190,65 @@ module _ (x : List ℕ) (i p e : ℕ) where
       gives (suc zero) h = (ap claimedSays (tells-long x i p e h), refl)
       gives (suc (suc k)) h = absurd h
 
+-- 8, 9, or neither
+primer-either : (u : List ℕ) → BadLength u ⊎ (HasForeign u ⊎ GoodPrimer u)
+primer-either u = go (lt-or-ge (length u) 1) (lt-or-ge longest (length u)) (lt-or-ge (firstForeign u) (length u))
+  where
+    go : (length u < 1) ⊎ (1 ≤ length u) → (longest < length u) ⊎ (length u ≤ longest) → (firstForeign u < length u) ⊎ (length u ≤ firstForeign u) → BadLength u ⊎ (HasForeign u ⊎ GoodPrimer u)
+    go (inl s) l f = inl (inl s)
+    go (inr s) (inl l) f = inl (inr l)
+    go (inr s) (inr l) (inl f) = inr (inl (s, l, f))
+    go (inr s) (inr l) (inr f) = inr (inr (s, l, f))
+
+module _ (x u out : List ℕ) where
+  pub find-by : By (findRows x u out) (findAnswer x u out) (findLeaves x u out)
+  unfolding findAnswer findLeaves refuse success refusal
+  find-by = goes-by (findRows x u out) _ _ (which (lt-or-ge most (length x)) (primer-either u) (lt-or-ge (length out) (length (places x u)))) gives
+    where
+      which : (most < length x) ⊎ (length x ≤ most) → BadLength u ⊎ (HasForeign u ⊎ GoodPrimer u) → (length out < length (places x u)) ⊎ (length (places x u) ≤ length out) → (k : ℕ) × rowAt (findRows x u out) k .when
+      which (inl h) p l = (1, h)
+      which (inr h) (inl p) l = (8, (h, p))
+      which (inr h) (inr (inl p)) l = (9, (h, p))
+      which (inr h) (inr (inr p)) (inl l) = (3, (h, p, l))
+      which (inr h) (inr (inr p)) (inr l) = (0, (h, p, l))
+
+      gives : Follows (findRows x u out) (findAnswer x u out) (findLeaves x u out)
+      gives zero w = rw (long-no x (w .0), good-judged u _ (w .1 .0) (w .1 .1) (w .1 .2), le-ltb (length out) (length (places x u)) (w .2)) (refl, success-list (places x u) out (length (places x u)))
+      gives (suc zero) w = rw (long-yes x w) (refl, refused-list (places x u) out 1 (length x) refl refl)
+      gives (suc (suc zero)) w = absurd w
+      gives (suc (suc (suc zero))) w = rw (long-no x (w .0), good-judged u _ (w .1 .0) (w .1 .1) (w .1 .2), lt-ltb (length out) (length (places x u)) (w .2)) (refl, list-full (places x u) out (length (places x u)))
+      gives (suc (suc (suc (suc zero)))) w = absurd w
+      gives (suc (suc (suc (suc (suc zero))))) w = absurd w
+      gives (suc (suc (suc (suc (suc (suc zero)))))) w = absurd w
+      gives (suc (suc (suc (suc (suc (suc (suc zero))))))) w = absurd w
+      gives (suc (suc (suc (suc (suc (suc (suc (suc zero)))))))) w = rw (long-no x (w .0), length-judged u _ (w .1)) (refl, refused-list (places x u) out 8 (length u) refl refl)
+      gives (suc (suc (suc (suc (suc (suc (suc (suc (suc zero))))))))) w = rw (long-no x (w .0), foreign-judged u _ (w .1 .0) (w .1 .1) (w .1 .2)) (refl, refused-list (places x u) out 9 (firstForeign u) refl refl)
+      gives (suc (suc (suc (suc (suc (suc (suc (suc (suc (suc k)))))))))) w = absurd w
+
+module _ (u out : List ℕ) where
+  pub turn-by : By (turnRows u out) (turnAnswer u out) (turnLeaves u out)
+  unfolding turnAnswer turnLeaves refuse success refusal
+  turn-by = goes-by (turnRows u out) _ _ (which (primer-either u) (lt-or-ge (length out) (length u))) gives
+    where
+      which : BadLength u ⊎ (HasForeign u ⊎ GoodPrimer u) → (length out < length u) ⊎ (length u ≤ length out) → (k : ℕ) × rowAt (turnRows u out) k .when
+      which (inl p) l = (8, p)
+      which (inr (inl p)) l = (9, p)
+      which (inr (inr p)) (inl l) = (4, (p, l))
+      which (inr (inr p)) (inr l) = (0, (p, l))
+
+      gives : Follows (turnRows u out) (turnAnswer u out) (turnLeaves u out)
+      gives zero w = rw (good-judged u _ (w .0 .0) (w .0 .1) (w .0 .2), le-ltb (length out) (length u) (w .1)) (refl, success-front (reverseComplement u) out (length u))
+      gives (suc zero) w = absurd w
+      gives (suc (suc zero)) w = absurd w
+      gives (suc (suc (suc zero))) w = absurd w
+      gives (suc (suc (suc (suc zero)))) w = rw (good-judged u _ (w .0 .0) (w .0 .1) (w .0 .2), lt-ltb (length out) (length u) (w .1)) (refl, refused-same (reverseComplement u) out 4 (length u) refl)
+      gives (suc (suc (suc (suc (suc zero))))) w = absurd w
+      gives (suc (suc (suc (suc (suc (suc zero)))))) w = absurd w
+      gives (suc (suc (suc (suc (suc (suc (suc zero))))))) w = absurd w
+      gives (suc (suc (suc (suc (suc (suc (suc (suc zero)))))))) w = rw (length-judged u _ w) (refl, refused-same (reverseComplement u) out 8 (length u) refl)
+      gives (suc (suc (suc (suc (suc (suc (suc (suc (suc zero))))))))) w = rw (foreign-judged u _ (w .0) (w .1) (w .2)) (refl, refused-same (reverseComplement u) out 9 (firstForeign u) refl)
+      gives (suc (suc (suc (suc (suc (suc (suc (suc (suc (suc k)))))))))) w = absurd w
+
 module _ (l s : List ℕ) where
   pub index-by : By (indexRows l s) (indexAnswer l s) (indexLeaves l s)
   unfolding indexAnswer indexLeaves afterwards refuse success refusal
@@ -232,19 +284,19 @@ module _ (x : List ℕ) (mode : ℕ) (out s : List ℕ) where
 
   mode-goes : length x ≤ most → 1 < mode → listIndexAnswer x mode out s ≡ refusal 2 mode
   unfolding listIndexAnswer refuse
-  mode-goes h m = rw (long-no x h, in-no 0 1 mode (inr m))
+  mode-goes h m = rw (long-no x h, within-no 0 1 mode (inr m))
 
   full-goes : length x ≤ most → mode ≤ 1 → rows lineSize out < lined → listIndexAnswer x mode out s ≡ refusal 3 lined
   unfolding listIndexAnswer refuse
-  full-goes h m l = rw (long-no x h, in-yes 0 1 mode (omega arith) m, lt-ltb (rows lineSize out) lined l)
+  full-goes h m l = rw (long-no x h, within-yes 0 1 mode (omega arith) m, lt-ltb (rows lineSize out) lined l)
 
   pub short-goes : length x ≤ most → mode ≤ 1 → lined ≤ rows lineSize out → rows entrySize s < entered → listIndexAnswer x mode out s ≡ refusal 7 entered
   unfolding listIndexAnswer refuse
-  short-goes h m l b = rw (long-no x h, in-yes 0 1 mode (omega arith) m, le-ltb (rows lineSize out) lined l, lt-ltb (rows entrySize s) entered b)
+  short-goes h m l b = rw (long-no x h, within-yes 0 1 mode (omega arith) m, le-ltb (rows lineSize out) lined l, lt-ltb (rows entrySize s) entered b)
 
   pub both-goes : length x ≤ most → mode ≤ 1 → lined ≤ rows lineSize out → entered ≤ rows entrySize s → listIndexAnswer x mode out s ≡ both lined entered
   unfolding listIndexAnswer refuse
-  both-goes h m l b = rw (long-no x h, in-yes 0 1 mode (omega arith) m, le-ltb (rows lineSize out) lined l, le-ltb (rows entrySize s) entered b)
+  both-goes h m l b = rw (long-no x h, within-yes 0 1 mode (omega arith) m, le-ltb (rows lineSize out) lined l, le-ltb (rows entrySize s) entered b)
 
   -- a slice that goes by them
   both-by : (made full old left : List ℕ) → ((a : Answer) → listIndexAnswer x mode out s ≡ a → (a ≡ both lined entered → left ≡ made) × (a ≡ refusal 3 lined → left ≡ full) × ((k v : ℕ) → eqb k 0 ≡ false → eqb k 3 ≡ false → a ≡ refusal k v → left ≡ old))

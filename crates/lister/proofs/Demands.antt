@@ -19,6 +19,7 @@ use Rattle.words.specs.Answers.{success, refusal, listedSays, tabledSays, logge
 use Rattle.words_index.specs.Calls.{indexedSays, listIndexedSays}
 use Rattle.words_runs.specs.Calls.{runsListedSays}
 use Rattle.words_claims.specs.Calls.{claimedSays}
+use Rattle.words_primers.specs.Calls.{placedSays, turnedSays}
 use Rattle.words.specs.Calls.{tableAnswer, tableLeaves, replayAnswer, replayLeaves}
 use Rattle.words.proofs.Tests.{lt-or-ge}
 use Rattle.words.proofs.Rows.{Has, rows-times}
@@ -41,10 +42,12 @@ use Rattle.call_indexes.proofs.index.Reads as index-call
 use Rattle.call_lookups.proofs.lookup.Reads as lookup-call
 use Rattle.call_claims.proofs.claim.Reads as claim-call
 use Rattle.call_claims.proofs.motif.Reads as motif-call
+use Rattle.call_primers.proofs.find_primer.Reads as find-call
+use Rattle.call_primers.proofs.reverse_complement.Reads as turn-call
 use Rattle.call_reader.proofs.take_at.Reads as take-call
 use Rattle.call_reader.proofs.Learnt.{NewAsked, NewLearnt, NextAsked, NextLearnt}
-use Rattle.lister.proofs.Refusals.{By, listRows, runsRows, tableRows, logRows, replayRows, claimRows, indexRows, listIndexRows, besideRows}
-use Rattle.lister.proofs.Answered.{by-equal, list-by, runs-by, table-by, log-by, replay-by, claim-by, index-by, list-index-by, beside-by}
+use Rattle.lister.proofs.Refusals.{By, listRows, runsRows, tableRows, logRows, replayRows, claimRows, findRows, turnRows, indexRows, listIndexRows, besideRows}
+use Rattle.lister.proofs.Answered.{by-equal, list-by, runs-by, table-by, log-by, replay-by, claim-by, find-by, turn-by, index-by, list-index-by, beside-by}
 use Rattle.lister.proofs.Handed.{MotifOf, motif-of, TakesOf, takes-of, LooksOf, looks-of}
 use Rattle.lister.proofs.Steps.{Steps, steps-of, steps-sum}
 
@@ -58,6 +61,8 @@ pub record EveryCallIsAnswered : Type 0 where
   pub log : (κs : _) (a : _) → log-call.Asked κs a × ((r : _) (e : _) → log-call.Learnt κs a r e → By (logRows (now (a .0)) (now (a .1 .0))) (loggedSays r) (now (e .1 .0)))
   pub replay : (κs : _) (a : _) → replay-call.Asked κs a × ((r : _) (e : _) → replay-call.Learnt κs a r e → By (replayRows (now (a .0)) (now (a .1 .0)) (a .1 .1 .0) (now (a .1 .1 .1 .0))) (replayedSays r) (now (e .1 .1 .1 .0)))
   pub claim : (κs : _) (a : _) → claim-call.Asked κs a × ((r : _) (e : _) → claim-call.Learnt κs a r e → By (claimRows (now (a .0)) (a .1 .0) (a .1 .1 .0) (a .1 .1 .1 .0)) (claimedSays r) [])
+  pub find : (κs : _) (a : _) → find-call.Asked κs a × ((r : _) (e : _) → find-call.Learnt κs a r e → By (findRows (now (a .0)) (now (a .1 .0)) (now (a .1 .1 .0))) (placedSays r) (now (e .1 .1 .0)))
+  pub turn : (κs : _) (a : _) → turn-call.Asked κs a × ((r : _) (e : _) → turn-call.Learnt κs a r e → By (turnRows (now (a .0)) (now (a .1 .0))) (turnedSays r) (now (e .1 .0)))
   pub list-index : (κs : _) (a : _) → both-call.Asked κs a × ((r : _) (e : _) → both-call.Learnt κs a r e
       → By (listIndexRows (now (a .0)) (a .1 .0) (now (a .1 .1 .0)) (now (a .1 .1 .1 .0))) (listIndexedSays r) (now (e .1 .1 .0))
       × By (besideRows (now (a .0)) (a .1 .0) (now (a .1 .1 .0)) (now (a .1 .1 .1 .0))) (listIndexedSays r) (now (e .1 .1 .1 .0)))
@@ -77,6 +82,8 @@ every-call-is-answered =
       log = λ κs a. (tt, λ r e h. by-equal (h .0) (h .1) (log-by _ _));
       replay = λ κs a. (tt, λ r e h. by-equal (h .0) (h .1) (replay-by _ _ _ _));
       claim = λ κs a. (tt, λ r e h. by-equal h refl (claim-by _ _ _ _));
+      find = λ κs a. (tt, λ r e h. by-equal (h .0) (h .1) (find-by _ _ _));
+      turn = λ κs a. (tt, λ r e h. by-equal (h .0) (h .1) (turn-by _ _));
       list-index = λ κs a. (tt, λ r e h. (by-equal (h .0) (h .1) (list-index-by _ _ _ _), by-equal (h .0) (h .2) (beside-by _ _ _ _)));
       index = λ κs a. (tt, λ r e h. by-equal (h .0) (h .1) (index-by _ _));
       lookup = λ κs a. (tt, λ r e h. looks-of _ _ _ h);

@@ -7,3 +7,4 @@ pub mod Claims
 pub mod Indexes
 pub mod Unread
 pub mod Repetitions
+pub mod Primers

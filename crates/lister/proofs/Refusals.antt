@@ -18,6 +18,7 @@ use Rattle.words.proofs.Afterwards.{front}
 use Rattle.words_index.specs.Index.{firstLoose, inOrder, entrySize, index, entryCount}
 use Rattle.words_runs.specs.Runs.{runSize, runs, runCount}
 use Rattle.words_claims.specs.Calls.{verdict, claimedSays}
+use Rattle.words_primers.specs.Primers.{longest, firstForeign, places, reverseComplement}
 
 -- one row: when its number is given, what is returned with it, and the lent slice afterwards
 pub record Row : Type 1 where
@@ -106,6 +107,48 @@ replayRows x l w out =
 -- the claim check, which has no slice; what it returns is the number of its verdict and what is told with it, and when each is given stands in Claims.antt
 abbrev pub claimRows : List ℕ → ℕ → ℕ → ℕ → List Row
 claimRows x i p e = record { when = length x ≤ most; returns = claimedSays (verdict x i p e) .values; leaves = [] } ∷ rowOf (most < length x) (length x) [] ∷ []
+
+-- a primer of 1 to 60 letters, none of them foreign
+abbrev pub GoodPrimer : List ℕ → Type 0
+GoodPrimer u = (1 ≤ length u) × (length u ≤ longest) × (length u ≤ firstForeign u)
+
+-- one of another length, or with a foreign letter
+abbrev pub BadLength : List ℕ → Type 0
+BadLength u = (length u < 1) ⊎ (longest < length u)
+
+abbrev pub HasForeign : List ℕ → Type 0
+HasForeign u = (1 ≤ length u) × (length u ≤ longest) × (firstForeign u < length u)
+
+-- the c places of a primer u in a read x
+abbrev pub findRows : List ℕ → List ℕ → List ℕ → List Row
+findRows x u out =
+    let c = length (places x u) in
+    rowOf ((length x ≤ most) × GoodPrimer u × (c ≤ length out)) c (front (places x u) out)
+    ∷ rowOf (most < length x) (length x) out
+    ∷ never
+    ∷ rowOf ((length x ≤ most) × GoodPrimer u × (length out < c)) c (replicate (length out) 0)
+    ∷ never
+    ∷ never
+    ∷ never
+    ∷ never
+    ∷ rowOf ((length x ≤ most) × BadLength u) (length u) out
+    ∷ rowOf ((length x ≤ most) × HasForeign u) (firstForeign u) out
+    ∷ []
+
+-- the reverse complement of a primer u
+abbrev pub turnRows : List ℕ → List ℕ → List Row
+turnRows u out =
+    rowOf (GoodPrimer u × (length u ≤ length out)) (length u) (front (reverseComplement u) out)
+    ∷ never
+    ∷ never
+    ∷ never
+    ∷ rowOf (GoodPrimer u × (length out < length u)) (length u) out
+    ∷ never
+    ∷ never
+    ∷ never
+    ∷ rowOf (BadLength u) (length u) out
+    ∷ rowOf (HasForeign u) (firstForeign u) out
+    ∷ []
 
 -- the index of a list l alone
 abbrev pub indexRows : List ℕ → List ℕ → List Row

@@ -1,6 +1,6 @@
 // The library that a tablet links: the public calls of documents 01 and 02. None of them has a `requires`: any slice, any mode, any width and any
-// u32 is answered. What each answers and leaves in each slice stands in specs/Calls.antt of crates/words, words_index, words_runs and words_claims; docs/CONTRACTS.md has a
-// row for each.
+// u32 is answered. What each answers and leaves in each slice stands in specs/Calls.antt of crates/words, words_index, words_runs, words_claims and words_primers;
+// docs/CONTRACTS.md has a row for each.
 // proofs/Demands.antt has the three theorems that a reader should open first.
 pub use call_claims::claim;
 pub use call_claims::motif;
@@ -9,6 +9,8 @@ pub use call_list_indexes::list_index;
 pub use call_lists::list;
 pub use call_logs::log;
 pub use call_lookups::lookup;
+pub use call_primers::find_primer;
+pub use call_primers::reverse_complement;
 pub use call_reader::LogReader;
 pub use call_reader::new;
 pub use call_reader::next;

@@ -3,6 +3,7 @@
 // request of document 02 adds is run by a library of its own.
 use run_claims::claim_on;
 use run_prints::answer;
+use run_prints::count_up;
 use run_prints::number;
 use run_prints::word;
 use run_sevens::list_in;
@@ -237,15 +238,6 @@ fn limits() {
     long_tables(&within[..], &over[..]);
 }
 
-// the bytes from 0 on
-fn count_up(read: &mut [u8]) {
-    let mut i: usize = 0;
-    while i < read.len() {
-        read[i] = (i % 256) as u8;
-        i += 1;
-    }
-}
-
 // every byte there is
 fn bytes() {
     let mut read = [0u8; 256];
@@ -269,4 +261,5 @@ fn main() {
     run_unread::run();
     run_runs::run();
     run_claims::run();
+    run_primers::run();
 }

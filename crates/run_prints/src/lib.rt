@@ -1,4 +1,4 @@
-// What the program that runs the calls prints: words, numbers, slices, and answers in the documents' numbers.
+// What the program that runs the calls prints: words, numbers, slices, and answers in the documents' numbers; and a read of every byte.
 use call_answers::Answer;
 use libc::STDOUT_FILENO;
 
@@ -21,6 +21,21 @@ pub fn slice(a: &[u16]) {
     let mut i: usize = 0;
     while i < a.len() {
         number(wide(a[i]));
+        i += 1;
+    }
+    word(b"\n");
+}
+
+fn wide_byte(x: u8) -> u64 {
+    x as u64
+}
+
+// the numbers of a slice of bytes
+pub fn slice_bytes(a: &[u8]) {
+    word(b"slice");
+    let mut i: usize = 0;
+    while i < a.len() {
+        number(wide_byte(a[i]));
         i += 1;
     }
     word(b"\n");
@@ -52,4 +67,13 @@ pub fn slice_wide(a: &[u64]) {
         i += 1;
     }
     word(b"\n");
+}
+
+// the bytes from 0 on
+pub fn count_up(read: &mut [u8]) {
+    let mut i: usize = 0;
+    while i < read.len() {
+        read[i] = (i % 256) as u8;
+        i += 1;
+    }
 }

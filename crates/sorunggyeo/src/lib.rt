@@ -8,6 +8,7 @@ ghost use Rattle.words.specs.Calls.{replayAnswer, replayLeaves, readerTakes};
 ghost use Rattle.words_index.specs.Calls.{indexAnswer, indexLeaves, listIndexAnswer, listIndexLeaves, listIndexBeside, lookupGives};
 ghost use Rattle.words_runs.specs.Calls.{runsAnswer, runsLeaves};
 ghost use Rattle.words_claims.specs.Calls.{claimAnswer};
+ghost use Rattle.words_primers.specs.Calls.{findAnswer, findLeaves, turnAnswer, turnLeaves};
 ghost use Rattle.call_answers.specs.Plain.{plain, plainMove, plainLooked};
 ghost use Rattle.call_claims.specs.Parts.{motifPart};
 use call_answers::Answer;
@@ -75,6 +76,24 @@ pub extern "C" fn sorunggyeo_motif(read: &[u8], start: u32, period: u32, copies:
     ensures { λ r. ⌜ r ≡ motifPart (now (read .entry)) start period copies ⌝ }
 {
     call_claims::motif_part(read, start, period, copies)
+}
+
+// The places of a primer.
+#[no_mangle]
+pub extern "C" fn sorunggyeo_find_primer(read: &[u8], primer: &[u8], places: &mut [u16]) -> Answer
+    ensures { λ r. ⌜ (r ≡ plain (findAnswer (now (read .entry)) (now (primer .entry)) (now (places .entry))))
+        × (now (places .exit) ≡ findLeaves (now (read .entry)) (now (primer .entry)) (now (places .entry))) ⌝ }
+{
+    call_answers::placed(call_primers::find_primer(read, primer, places))
+}
+
+// The reverse complement of a primer.
+#[no_mangle]
+pub extern "C" fn sorunggyeo_reverse_complement(primer: &[u8], letters: &mut [u8]) -> Answer
+    ensures { λ r. ⌜ (r ≡ plain (turnAnswer (now (primer .entry)) (now (letters .entry))))
+        × (now (letters .exit) ≡ turnLeaves (now (primer .entry)) (now (letters .entry))) ⌝ }
+{
+    call_answers::turned(call_primers::reverse_complement(primer, letters))
 }
 
 // One call of the log reader, on the log and the place reached.

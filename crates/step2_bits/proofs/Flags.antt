@@ -13,8 +13,8 @@ use Rattle.words.proofs.Ranges.{length-column, at-column}
 use Rattle.words.proofs.Rule.{at-ext}
 use Rattle.slots.specs.Slots.{put}
 use Rattle.slots.proofs.Laws.{put-length, put-same, put-other}
-use Rattle.step2_bits.specs.Sets.{bit, flag, flags, Sound}
-use Rattle.step2_bits.proofs.Digits.{Bit}
+use Rattle.bits.specs.Bits.{bit, Bit}
+use Rattle.step2_bits.specs.Sets.{flag, flags, Sound}
 
 pub flags-length : (set : List ℕ) → length (flags set) ≡ 1000
 unfolding flags

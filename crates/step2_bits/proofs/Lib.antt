@@ -1,4 +1,3 @@
-pub mod Digits
 pub mod Flags
 pub mod Once
 pub mod Places

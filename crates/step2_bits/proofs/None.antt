@@ -3,8 +3,9 @@ use Prim.Native.Nat.{ℕ, _-_, _/_, _%_, _<_}
 use mathlib.Core.Path.{_≡_, ap, _∙_}
 use native.Mathlib.Omega.{arith}
 use lib.ListN.{getD, replicate, length-replicate, getD-replicate}
-use Rattle.step2_bits.specs.Sets.{bit, flag, flags, Sound, Empty}
-use Rattle.step2_bits.proofs.Digits.{bit-zero}
+use Rattle.bits.specs.Bits.{bit}
+use Rattle.bits.proofs.Digits.{bit-zero}
+use Rattle.step2_bits.specs.Sets.{flag, flags, Sound, Empty}
 use Rattle.step2_bits.proofs.Flags.{flags-at}
 
 word-zero : (b : ℕ) → b < 17 → getD {A = ℕ} (replicate 17 0) b 0 ≡ 0

@@ -8,8 +8,9 @@ use lib.ListN.{getD}
 use lib.Seq.{ext-getD}
 use Rattle.words.specs.Reads.{at}
 use Rattle.words.proofs.Tests.{lt-or-ge}
-use Rattle.step2_bits.specs.Sets.{bit, flag, flags, Sound}
-use Rattle.step2_bits.proofs.Digits.{bits-same}
+use Rattle.bits.specs.Bits.{bit}
+use Rattle.bits.proofs.Digits.{bits-same}
+use Rattle.step2_bits.specs.Sets.{flag, flags, Sound}
 use Rattle.step2_bits.proofs.Flags.{flags-at}
 
 module _ (a : List ℕ) (c j : ℕ) (h : j < 64) where

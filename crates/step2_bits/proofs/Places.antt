@@ -11,8 +11,9 @@ use lib.Count.{trailingZeros}
 use Rattle.words.proofs.Tests.{lt-or-ge}
 use Rattle.slots.specs.Slots.{put, putSome}
 use Rattle.slots.proofs.Laws.{some-is}
-use Rattle.step2_bits.specs.Sets.{bit, flag, flags, Sound, First}
-use Rattle.step2_bits.proofs.Digits.{one-zero, bit-zero, bit-full, Bit, single, or-bit, cleared, lowest, lowest-low, cleared-bit}
+use Rattle.bits.specs.Bits.{bit, Bit}
+use Rattle.bits.proofs.Digits.{one-zero, bit-zero, bit-full, single, or-bit, cleared, lowest, lowest-low, cleared-bit}
+use Rattle.step2_bits.specs.Sets.{flag, flags, Sound, First}
 use Rattle.step2_bits.proofs.Flags.{flags-at, Renewed, renewed-one, renewed-both, renewed}
 
 -- what the code makes of a set

@@ -7,10 +7,7 @@ use mathlib.Core.List.{List}
 use lib.ListN.{length, getD}
 use Rattle.words.specs.Range.{column}
 use Rattle.words.specs.Reads.{at}
-
--- bit j of a number, from 0
-unfoldable pub bit : ℕ → ℕ → ℕ
-bit w j = w / 2 ^ j % 2
+use Rattle.bits.specs.Bits.{bit}
 
 -- 1 if the place s is in the set, else 0
 unfoldable pub flag : List ℕ → ℕ → ℕ

@@ -1,5 +1,7 @@
 pub mod Tests
 pub mod Ranges
+pub mod Passing
+pub mod Within
 pub mod Rows
 pub mod Sums
 pub mod Leaders

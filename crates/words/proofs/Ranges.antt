@@ -2,14 +2,14 @@
 use Prim.Native.Nat.{ℕ, zero, suc, _+_, _-_, _≤_, _<_}
 use mathlib.Core.Path.{_≡_, refl, sym, ap, subst, _∙_}
 use mathlib.Core.Logic.{_⊎_, inl, inr, ⊎-elim}
-use mathlib.Core.Bool.{Bool, true, false}
+use mathlib.Core.Bool.{Bool, true, false, _&&_}
 use mathlib.Core.List.{List, [], _∷_, _++_, append-assoc}
 use native.Mathlib.Omega.{arith}
 use native.Mathlib.Nat.{eq-or-lt-of-le, suc-add, zero-add, add-zero}
 use lib.ListN.{length, getD}
 use Rattle.words.specs.Range.{first, every, gather, cells, column, leader}
 use Rattle.words.specs.Reads.{at}
-use Rattle.words.proofs.Tests.{clash}
+use Rattle.words.proofs.Tests.{and-left, and-right, and-both, clash, same-test, lt-or-ge}
 
 module _ (p : ℕ → Bool) where
   pub first-now : (d j : ℕ) → p j ≡ true → first p (suc d) j ≡ j
@@ -88,6 +88,20 @@ every-fails p (suc d) j e = go (p j) refl (λ t. every-fails p d (suc j) t)
     go : (b : Bool) → p j ≡ b → (every p d (suc j) ≡ false → (k : ℕ) × (suc j ≤ k) × (k < suc j + d) × (p k ≡ false)) → (k : ℕ) × (j ≤ k) × (k < j + suc d) × (p k ≡ false)
     go true q h = let w = h (sym (every-hit p d j q) ∙ e) in (w .0, omega (arith, w .1), omega (arith, w .2), w .3)
     go false q h = (j, omega arith, omega arith, q)
+
+-- one number more at the end of the range
+pub every-more : (p : ℕ → Bool) (d j : ℕ) → every p (suc d) j ≡ every p d j && p (j + d)
+every-more p d j =
+    same-test (every p (suc d) j) (every p d j && p (j + d))
+    (λ t.
+    and-both (every p d j) (p (j + d))
+    (every-of p d j (λ k a b. every-at p (suc d) j t k a (omega arith)))
+    (every-at p (suc d) j t (j + d) (omega arith) (omega arith)))
+    (λ t. every-of p (suc d) j (λ k a b. last k (and-left (every p d j) (p (j + d)) t) (and-right (every p d j) (p (j + d)) t) a (lt-or-ge k (j + d)) (omega arith)))
+  where
+    last : (k : ℕ) → every p d j ≡ true → p (j + d) ≡ true → j ≤ k → (k < j + d) ⊎ (j + d ≤ k) → k ≤ j + d → p k ≡ true
+    last k t s a (inl l) h = every-at p d j t k a l
+    last k t s a (inr l) h = subst (λ (v : ℕ). p v ≡ true) (omega arith) s
 
 pub first-same : (p q : ℕ → Bool) (d j : ℕ) → ((k : ℕ) → j ≤ k → k < j + d → p k ≡ q k) → first p d j ≡ first q d j
 unfolding first

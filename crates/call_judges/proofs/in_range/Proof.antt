@@ -5,7 +5,7 @@ use borrow.Author.Needs.{needs}
 use borrow.Author.Tests.{not-true, not-false}
 use Rattle.words.proofs.Sizes.{top-some}
 use Rattle.call_judges.specs.Judge.{inRange}
-use Rattle.call_judges.proofs.Judging.{within-is}
+use Rattle.words.proofs.Within.{within-is}
 use Rattle.call_judges.proofs.in_range.Statement.{statement}
 use Rattle.call_judges.proofs.in_range.Tie as tie
 

@@ -1,12 +1,12 @@
--- `run_calls::count_up` meets its contract. The loop's invariant: i is within the slice, whose length stays; the measure is what is left of it.
+-- `run_prints::count_up` meets its contract. The loop's invariant: i is within the slice, whose length stays; the measure is what is left of it.
 -- Assumes nothing.
 use Prim.Native.Nat.{_-_, _≤_}
 use mathlib.Core.Path.{_≡_, refl}
 use native.Mathlib.Omega.{arith}
 use lib.ListN.{length, length-set}
 use borrow.Author.Needs.{needs}
-use Rattle.run_calls.proofs.count_up.Statement.{statement}
-use Rattle.run_calls.proofs.count_up.Tie as tie
+use Rattle.run_prints.proofs.count_up.Statement.{statement}
+use Rattle.run_prints.proofs.count_up.Tie as tie
 
 abbrev Inv-loop : tie.InvT-loop
 Inv-loop read₀ i₀ read i = (i ≤ length read₀) × (length read ≡ length read₀)

@@ -1,4 +1,4 @@
--- The bits of a number: numbers with the same bits are equal, what a bit of an or, of a power, and of a number without its lowest bit is, and which
+-- The bits of a number: numbers with the same bits are equal, what a bit of an or, of an and, of a power, and of a number without its lowest bit is, and which
 -- the lowest bit is. Each by induction on the digits, lowest first. Assumes nothing.
 use Prim.Native.Nat.{ℕ, zero, suc, _+_, _-_, _*_, _/_, _%_, _^_, _≤_, _<_, min, max}
 use mathlib.Core.Path.{_≡_, refl, sym, ap, ap₂, _∙_}
@@ -7,25 +7,25 @@ use native.Mathlib.Omega.{arith}
 use native.Mathlib.Nat.{add-zero, div-one, zero-div, mod-lt, div-add-mod', mul-div-cancel, mul-mod-left, max-zero, lt-of-lt-of-le, lt-of-le-of-lt}
 use lib.Pow.{shr-shr, shl-exact, shl-lt, pow-mono}
 use lib.Arith.{lt-one, digits-mod}
-use lib.Bits.{bitAnd, bitOr, and-step, and-self, and-le-l, or-step, or-shr, or-lt, shifted-half, shifted-even}
+use lib.Bits.{bitAnd, bitOr, and-step, and-self, and-le-l, and-shr, or-step, or-shr, or-lt, shifted-half, shifted-even}
 use lib.Count.{trailingZeros}
 use Rattle.words.proofs.Tests.{lt-or-ge}
-use Rattle.step2_bits.specs.Sets.{bit}
+use Rattle.bits.specs.Bits.{bit, Bit}
 
 -- a bit is not both
 pub one-zero : _≡_ {A = ℕ} 1 0 → ⊥
 one-zero e = omega arith
 
 -- the lowest bit, and the others
-bit-low : (n : ℕ) → bit n 0 ≡ n % 2
+pub bit-low : (n : ℕ) → bit n 0 ≡ n % 2
 unfolding bit
 bit-low n = ap (λ (x : ℕ). x % 2) (div-one n)
 
-bit-half : (n j : ℕ) → bit n (suc j) ≡ bit (n / 2) j
+pub bit-half : (n j : ℕ) → bit n (suc j) ≡ bit (n / 2) j
 unfolding bit
 bit-half n j = let e : suc j ≡ 1 + j = omega arith in ap (λ (k : ℕ). n / 2 ^ k % 2) e ∙ ap (λ (x : ℕ). x % 2) (sym (shr-shr n 1 j))
 
-bit-lt : (n j : ℕ) → bit n j < 2
+pub bit-lt : (n j : ℕ) → bit n j < 2
 unfolding bit
 bit-lt n j = mod-lt (n / 2 ^ j) (omega arith)
 
@@ -55,6 +55,12 @@ unfolding bit
 bit-or a b j =
     ap (λ (x : ℕ). x % 2) (or-shr a b j ∙ or-step (a / 2 ^ j) (b / 2 ^ j)) ∙ digits-mod (bitOr (a / 2 ^ j / 2) (b / 2 ^ j / 2)) (omega arith)
 
+-- a bit of an and
+pub bit-and : (a b j : ℕ) → bit (bitAnd a b) j ≡ min (bit a j) (bit b j)
+unfolding bit
+bit-and a b j =
+    ap (λ (x : ℕ). x % 2) (and-shr a b j ∙ and-step (a / 2 ^ j) (b / 2 ^ j)) ∙ digits-mod (bitAnd (a / 2 ^ j / 2) (b / 2 ^ j / 2)) (omega arith)
+
 -- the bits of a power of two
 power-same : (j : ℕ) → bit (1 * 2 ^ j) j ≡ 1
 power-same zero = bit-low 1
@@ -65,12 +71,6 @@ power-other zero zero ne = absurd (ne refl)
 power-other zero (suc j) ne = bit-half 1 j ∙ bit-zero j
 power-other (suc i) zero ne = bit-low (1 * 2 ^ suc i) ∙ shifted-even 1 i
 power-other (suc i) (suc j) ne = bit-half (1 * 2 ^ suc i) j ∙ ap (λ (x : ℕ). bit x j) (shifted-half 1 i) ∙ power-other i j (λ e. ne (ap suc e))
-
--- w is was with v as bit j, in k bits
-pub record Bit (k was w j v : ℕ) : Type 0 where
-  pub fits : w < 2 ^ k
-  pub hit : bit w j ≡ v
-  pub miss : (i : ℕ) → i ≢ j → bit w i ≡ bit was i
 
 -- bit j alone, as the code has it
 abbrev pub single : ℕ → ℕ

@@ -1,0 +1,88 @@
+-- The numbers of a range that pass a test: exactly those, rising, and one number of the range more. Assumes nothing.
+use Prim.Native.Nat.{ℕ, zero, suc, _+_, _≤_, _<_}
+use mathlib.Core.Path.{_≡_, refl, subst, _∙_}
+use mathlib.Core.Logic.{_⊎_, inl, inr}
+use mathlib.Core.Bool.{Bool, true, false, cond}
+use mathlib.Core.List.{List, [], _∷_, _++_}
+use native.Mathlib.Omega.{arith}
+use native.Mathlib.Nat.{eq-or-lt-of-le}
+use lib.ListN.{length, getD}
+use Rattle.words.specs.Range.{gather, passing}
+use Rattle.words.proofs.Tests.{clash}
+use Rattle.words.proofs.Ranges.{append-nil, gather-next, gather-stop}
+
+-- v stands in a list of numbers
+abbrev pub In : List ℕ → ℕ → Type 0
+In l v = (k : ℕ) × (k < length l) × (getD l k 0 ≡ v)
+
+-- a list has exactly the numbers of the range that pass, and they rise
+pub record Passes (p : ℕ → Bool) (d j : ℕ) (l : List ℕ) : Type 0 where
+  pub only : (k : ℕ) → k < length l → (j ≤ getD l k 0) × (getD l k 0 < j + d) × (p (getD l k 0) ≡ true)
+  pub each : (v : ℕ) → j ≤ v → v < j + d → p v ≡ true → In l v
+  pub rises : (h k : ℕ) → h < k → k < length l → getD l h 0 < getD l k 0
+
+module _ (p : ℕ → Bool) where
+  passing-none : (j : ℕ) → passing p zero j ≡ []
+  unfolding passing gather
+  passing-none j = refl
+
+  first-passes : (d j : ℕ) → p j ≡ true → passing p (suc d) j ≡ j ∷ passing p d (suc j)
+  unfolding passing gather
+  first-passes d j t = rw t refl
+
+  first-fails : (d j : ℕ) → p j ≡ false → passing p (suc d) j ≡ passing p d (suc j)
+  unfolding passing gather
+  first-fails d j f = rw f refl
+
+  passes-none : (j : ℕ) → Passes p zero j []
+  passes-none j = record { only = λ k h. absurd (omega arith); each = λ v a b t. absurd (omega arith); rises = λ h k l b. absurd (omega arith) }
+
+  module _ (d j : ℕ) (l : List ℕ) (P : Passes p d (suc j) l) where
+    one-more : p j ≡ true → Passes p (suc d) j (j ∷ l)
+    one-more t = record { only = only; each = λ v a b s. each v b s (eq-or-lt-of-le a); rises = rises }
+      where
+        only : (k : ℕ) → k < suc (length l) → (j ≤ getD (j ∷ l) k 0) × (getD (j ∷ l) k 0 < j + suc d) × (p (getD (j ∷ l) k 0) ≡ true)
+        only zero h = (omega arith, omega arith, t)
+        only (suc k) h = let o = P .only k (omega arith) in (omega (arith, o .0), omega (arith, o .1), o .2)
+
+        each : (v : ℕ) → v < j + suc d → p v ≡ true → (j ≡ v) ⊎ (j < v) → In (j ∷ l) v
+        each v b s (inl e) = (0, omega arith, e)
+        each v b s (inr m) = let w = P .each v m (omega arith) s in (suc (w .0), omega (arith, w .1), w .2)
+
+        rises : (h k : ℕ) → h < k → k < suc (length l) → getD (j ∷ l) h 0 < getD (j ∷ l) k 0
+        rises h zero m b = absurd (omega arith)
+        rises zero (suc k) m b = omega (arith, P .only k (omega arith) .0)
+        rises (suc h) (suc k) m b = P .rises h k (omega arith) (omega arith)
+
+    none-more : p j ≡ false → Passes p (suc d) j l
+    none-more f = record {
+      only = λ k h. let o = P .only k h in (omega (arith, o .0), omega (arith, o .1), o .2);
+      each = λ v a b s. each v b s (eq-or-lt-of-le a);
+      rises = P .rises;
+    }
+      where
+        each : (v : ℕ) → v < j + suc d → p v ≡ true → (j ≡ v) ⊎ (j < v) → In l v
+        each v b s (inl e) = clash s (subst (λ (u : ℕ). p u ≡ false) e f)
+        each v b s (inr m) = P .each v m (omega arith) s
+
+  pub passes : (d j : ℕ) → Passes p d j (passing p d j)
+  passes zero j = rw (passing-none j) (passes-none j)
+  passes (suc d) j = go (p j) refl (passes d (suc j))
+    where
+      go : (b : Bool) → p j ≡ b → Passes p d (suc j) (passing p d (suc j)) → Passes p (suc d) j (passing p (suc d) j)
+      go true e P = rw (first-passes d j e) (one-more d j (passing p d (suc j)) P e)
+      go false e P = rw (first-fails d j e) (none-more d j (passing p d (suc j)) P e)
+
+  -- one number more at the end of a range from 1 on
+  pub next-passes : (d : ℕ) → p (d + 1) ≡ true → passing p (d + 1) 1 ≡ passing p d 1 ++ ((d + 1) ∷ [])
+  unfolding passing
+  next-passes d t = gather-next (λ k. cond (p k) (k ∷ []) []) d ∙ rw t refl
+
+  pub next-fails : (d : ℕ) → p (d + 1) ≡ false → passing p (d + 1) 1 ≡ passing p d 1
+  unfolding passing
+  next-fails d f = gather-next (λ k. cond (p k) (k ∷ []) []) d ∙ rw f (append-nil _)
+
+  -- a range from 1 on, after a number from which on none passes
+  pub passing-stop : (d e : ℕ) → d ≤ e → ((k : ℕ) → d < k → k ≤ e → p k ≡ false) → passing p e 1 ≡ passing p d 1
+  unfolding passing
+  passing-stop d e h none = gather-stop (λ k. cond (p k) (k ∷ []) []) d e 1 h (λ k a b. rw (none k (omega arith) (omega arith)) refl)

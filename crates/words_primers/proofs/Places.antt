@@ -1,0 +1,64 @@
+-- Where a primer sits: what it means in the document's words, and that the list of places has exactly those, rising. Assumes nothing.
+use Prim.Native.Nat.{ℕ, suc, _+_, _≤_, _<_}
+use mathlib.Core.Path.{_≡_, refl}
+use mathlib.Core.Logic.{_≢_, _↔_}
+use mathlib.Core.Bool.{true, false}
+use mathlib.Core.List.{List}
+use native.Mathlib.Omega.{arith}
+use lib.ListN.{length, getD}
+use lib.Dec.{leb}
+use borrow.Author.Tests.{le-leb, lt-leb, leb-true}
+use Rattle.words.specs.Range.{every}
+use Rattle.words.specs.Reads.{at, fits}
+use Rattle.words.proofs.Tests.{and-left, and-right, and-both}
+use Rattle.words.proofs.Ranges.{every-at, every-of}
+use Rattle.words.proofs.Passing.{In, passes}
+use Rattle.words_primers.specs.Bases.{setOf, matches}
+use Rattle.words_primers.specs.Primers.{letsIn, sits, places}
+use Rattle.words_primers.proofs.Sets.{Among, matches-means}
+
+-- the read's letter at position i is one of the code, and each of its bases is one of the primer letter's
+abbrev pub Under : List ℕ → ℕ → ℕ → Type 0
+Under x i c = (setOf (at x i) ≢ 0) × Among (setOf (at x i)) (setOf c)
+
+module _ (x u : List ℕ) (i : ℕ) where
+  pub lets-in-is : (k : ℕ) → letsIn x u i k ≡ matches (setOf (at x (i + k))) (setOf (getD u k 0))
+  unfolding letsIn
+  lets-in-is k = refl
+
+  -- a primer that ends inside the read sits there exactly if all its letters let in
+  pub sits-inside : i + length u ≤ suc (length x) → sits x u i ≡ every (letsIn x u i) (length u) 0
+  unfolding sits fits
+  sits-inside h = rw (le-leb (i + length u) (suc (length x)) h)
+
+  -- one that does not sits nowhere
+  pub sits-outside : suc (length x) < i + length u → sits x u i ≡ false
+  unfolding sits fits
+  sits-outside h = rw (lt-leb (i + length u) (suc (length x)) h)
+
+  pub sits-means : (sits x u i ≡ true) ↔ ((i + length u ≤ suc (length x)) × ((k : ℕ) → k < length u → Under x (i + k) (getD u k 0)))
+  unfolding sits fits letsIn
+  sits-means = (
+    λ t.
+        let f = and-left (leb (i + length u) (suc (length x))) (every (letsIn x u i) (length u) 0) t in
+        let e = and-right (leb (i + length u) (suc (length x))) (every (letsIn x u i) (length u) 0) t in
+        (leb-true _ _ f, λ k l. matches-means _ _ .0 (every-at (letsIn x u i) (length u) 0 e k (omega arith) (omega arith))),
+    λ m. and-both (leb (i + length u) (suc (length x))) (every (letsIn x u i) (length u) 0)
+        (le-leb _ _ (m .0))
+        (every-of (letsIn x u i) (length u) 0 (λ k a b. matches-means _ _ .1 (m .1 k (omega arith)))),
+  )
+
+module _ (x u : List ℕ) where
+  -- a number stands in the list exactly if it is a position at which the primer sits
+  pub places-exactly : (i : ℕ) → In (places x u) i ↔ ((1 ≤ i) × (i ≤ length x) × (sits x u i ≡ true))
+  unfolding places
+  places-exactly i =
+      let P = passes (sits x u) (length x) 1 in (
+        λ w. let o = P .only (w .0) (w .1) in rw (← w .2) (o .0, omega (arith, o .1), o .2),
+        λ m. P .each i (m .0) (omega (arith, m .1)) (m .2),
+      )
+
+  -- strictly ascending
+  pub places-rise : (h k : ℕ) → h < k → k < length (places x u) → getD (places x u) h 0 < getD (places x u) k 0
+  unfolding places
+  places-rise = passes (sits x u) (length x) 1 .rises

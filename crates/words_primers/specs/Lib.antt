@@ -1,0 +1,3 @@
+pub mod Bases
+pub mod Primers
+pub mod Calls
