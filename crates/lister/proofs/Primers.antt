@@ -114,7 +114,7 @@ taken-twice-it-gives-the-primer-back κs a r e h ok ls b q f g same room =
 -- a place on one strand is one on the other: where both calls succeed, on a read and on its reverse complement, with a primer and with its reverse complement
 pub both-strands-have-the-places : (κs : _) (a : _) (r : _) (e : _) → find-call.Learnt κs a r e → placedSays r .number ≡ 0 → (ls : _) (b : _) (q : _) (f : _) → find-call.Learnt ls b q f → placedSays q .number ≡ 0
     → now (b .0) ≡ reverseComplement (now (a .0)) → now (b .1 .0) ≡ reverseComplement (now (a .1 .0))
-    → (made other : List ℕ) × (now (e .1 .1 .0) ≡ front made (now (a .1 .1 .0))) × (now (f .1 .1 .0) ≡ front other (now (b .1 .1 .0)))
+    → (made other : List ℕ) × (now (e .1 .1 .0) ≡ front made (now (a .1 .1 .0))) × (placedSays r ≡ success (length made)) × (now (f .1 .1 .0) ≡ front other (now (b .1 .1 .0))) × (placedSays q ≡ success (length other))
     × ((i j : ℕ) → Mirrored (length (now (a .0))) (length (now (a .1 .0))) i j → In made i ↔ In other j)
 unfolding success refusal
 both-strands-have-the-places κs a r e h ok ls b q f g fine ex eu =
@@ -122,11 +122,15 @@ both-strands-have-the-places κs a r e h ok ls b q f g fine ex eu =
     let u = now (a .1 .0) in
     let A = every-call-is-answered .find κs a .1 r e h in
     let B = every-call-is-answered .find ls b .1 q f g in
-    let w = A .exactly 0 .0 ok in (
+    let w = A .exactly 0 .0 ok in
+    let here = A .gives 0 w in
+    let there = B .gives 0 (B .exactly 0 .0 fine) in (
       places x u,
       places (now (b .0)) (now (b .1 .0)),
-      A .gives 0 w .1,
-      B .gives 0 (B .exactly 0 .0 fine) .1,
+      here .1,
+      here .0,
+      there .1,
+      there .0,
       λ i j M.
           let m = sits-mirrored x u i j M in
           rw (ex, eu) (

@@ -1,2 +1,3 @@
 pub mod Words
-pub mod Passed
+pub mod Fronts
+pub mod Scanned

@@ -40,7 +40,8 @@ fn letting(primer: &[u8]) -> [u64; 16]
     all
 }
 
-// the places of the primer to the front of `out`; returns how many there are. A front that let in all before, or none, is one letter longer now if its next letter lets in
+// the places of the primer, rows of one number, to the front of `out`; returns how many there are. With each letter read a front of the primer, the empty one too, is a letter longer
+// if its next letter lets that one in, and is gone if not
 pub fn scan(out: &mut [u16], read: &[u8], primer: &[u8]) -> usize
     requires { ⌜ (length (now read) ≤ 1000) × (1 ≤ length (now primer)) × (length (now primer) ≤ longest) ⌝ }
     ensures { λ r. ⌜ Listing 1 (now (out .entry)) (places (now (read .entry)) (now (primer .entry))) r (now (out .exit)) ⌝ }

@@ -22,7 +22,7 @@ pub record Passes (p : ℕ → Bool) (d j : ℕ) (l : List ℕ) : Type 0 where
   pub rises : (h k : ℕ) → h < k → k < length l → getD l h 0 < getD l k 0
 
 module _ (p : ℕ → Bool) where
-  passing-none : (j : ℕ) → passing p zero j ≡ []
+  pub passing-none : (j : ℕ) → passing p zero j ≡ []
   unfolding passing gather
   passing-none j = refl
 

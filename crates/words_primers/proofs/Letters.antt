@@ -9,6 +9,7 @@ use native.Mathlib.Omega.{arith}
 use lib.Dec.{eqb, ltb}
 use borrow.Author.Tests.{eqb-true, eqb-false, ltb-true}
 use Rattle.words.specs.Range.{every}
+use Rattle.words.specs.Reads.{unread}
 use Rattle.words.proofs.Tests.{either, and-left, and-right}
 use Rattle.words.proofs.Ranges.{every-at}
 use Rattle.words_primers.specs.Bases.{code, setIn, letterIn, setOf, letterFor}
@@ -42,6 +43,11 @@ set-small b = go (either (eqb (setIn code b) 0))
     go : (eqb (setIn code b) 0 ≡ true) ⊎ (eqb (setIn code b) 0 ≡ false) → setIn code b < 16
     go (inl z) = omega (arith, eqb-true (setIn code b) 0 z)
     go (inr n) = ltb-true (setIn code b) 16 (at-letter (λ v s. ltb s 16) code refl b (eqb-false (setIn code b) 0 n))
+
+-- N is all four bases
+pub unread-set : setOf unread ≡ 15
+unfolding setOf setIn
+unread-set = refl
 
 -- the set of its letter is the set
 pub set-back : (s : ℕ) → s < 16 → setOf (letterFor s) ≡ s

@@ -1,21 +1,22 @@
 -- Where a primer sits: what it means in the document's words, and that the list of places has exactly those, rising. Assumes nothing.
 use Prim.Native.Nat.{ℕ, suc, _+_, _≤_, _<_}
-use mathlib.Core.Path.{_≡_, refl}
+use mathlib.Core.Path.{_≡_, refl, sym, ap, _∙_}
 use mathlib.Core.Logic.{_≢_, _↔_}
 use mathlib.Core.Bool.{true, false}
-use mathlib.Core.List.{List}
+use mathlib.Core.List.{List, []}
 use native.Mathlib.Omega.{arith}
 use lib.ListN.{length, getD}
 use lib.Dec.{leb}
-use borrow.Author.Tests.{le-leb, lt-leb, leb-true}
+use borrow.Author.Tests.{le-leb, lt-leb, leb-true, eqb-true, not-true}
 use Rattle.words.specs.Range.{every}
-use Rattle.words.specs.Reads.{at, fits}
-use Rattle.words.proofs.Tests.{and-left, and-right, and-both}
+use Rattle.words.specs.Reads.{at, unread, fits}
+use Rattle.words.proofs.Tests.{and-left, and-right, and-both, fails}
 use Rattle.words.proofs.Ranges.{every-at, every-of}
-use Rattle.words.proofs.Passing.{In, passes}
-use Rattle.words_primers.specs.Bases.{setOf, matches}
+use Rattle.words.proofs.Passing.{In, passes, passing-none, passing-stop}
+use Rattle.words_primers.specs.Bases.{setOf, letterFor, matches}
 use Rattle.words_primers.specs.Primers.{letsIn, sits, places}
-use Rattle.words_primers.proofs.Sets.{Among, matches-means}
+use Rattle.words_primers.proofs.Letters.{letter-back, unread-set, set-small}
+use Rattle.words_primers.proofs.Sets.{Among, matches-means, all-match}
 
 -- the read's letter at position i is one of the code, and each of its bases is one of the primer letter's
 abbrev pub Under : List ℕ → ℕ → ℕ → Type 0
@@ -48,6 +49,17 @@ module _ (x u : List ℕ) (i : ℕ) where
         (every-of (letsIn x u i) (length u) 0 (λ k a b. matches-means _ _ .1 (m .1 k (omega arith)))),
   )
 
+  -- a letter of the read that is none of the code is let in nowhere
+  pub outside-nowhere : (k : ℕ) → k < length u → setOf (at x (i + k)) ≡ 0 → sits x u i ≡ false
+  outside-nowhere k l z = not-true (sits x u i) (fails (sits x u i) (λ t. sits-means .0 t .1 k l .0 z))
+
+-- an unread base, which is any of the four, is let in by N alone
+pub unread-under-n-alone : (c : ℕ) → matches (setOf unread) (setOf c) ≡ true → c ≡ unread
+unread-under-n-alone c t =
+    let all : matches 15 (setOf c) ≡ true = rw unread-set at t in
+    let e : setOf c ≡ 15 = eqb-true (setOf c) 15 (sym (all-match (setOf c) (set-small c)) ∙ all) in
+    sym (letter-back c (λ z. omega (arith, e, z))) ∙ ap letterFor (e ∙ sym unread-set) ∙ letter-back unread (λ z. omega (arith, unread-set, z))
+
 module _ (x u : List ℕ) where
   -- a number stands in the list exactly if it is a position at which the primer sits
   pub places-exactly : (i : ℕ) → In (places x u) i ↔ ((1 ≤ i) × (i ≤ length x) × (sits x u i ≡ true))
@@ -57,6 +69,11 @@ module _ (x u : List ℕ) where
         λ w. let o = P .only (w .0) (w .1) in rw (← w .2) (o .0, omega (arith, o .1), o .2),
         λ m. P .each i (m .0) (omega (arith, m .1)) (m .2),
       )
+
+  -- a primer longer than the read sits nowhere
+  pub longer-nowhere : length x < length u → places x u ≡ []
+  unfolding places
+  longer-nowhere h = passing-stop (sits x u) 0 (length x) (omega arith) (λ k a b. sits-outside x u k (omega arith)) ∙ passing-none (sits x u) 1
 
   -- strictly ascending
   pub places-rise : (h k : ℕ) → h < k → k < length (places x u) → getD (places x u) h 0 < getD (places x u) k 0

@@ -75,6 +75,11 @@ module _ (r p : ℕ) (small : r < 16) (low : p < 16) where
   unfolding every sum matches lies has bit complementOf
   complement-matches = agree-is _ _ (at-sets (λ a b. agree (matches (complementOf a) (complementOf b)) (matches a b)) refl r p small low)
 
+-- the set of all bases matches itself alone
+pub all-match : (p : ℕ) → p < 16 → matches 15 p ≡ eqb p 15
+unfolding every matches lies has bit
+all-match p low = agree-is _ _ (at-set (λ v. agree (matches 15 v) (eqb v 15)) refl p low)
+
 pub complement-none : complementOf 0 ≡ 0
 unfolding sum bit complementOf
 complement-none = refl

@@ -20,7 +20,7 @@ onlyG = 4
 abbrev pub onlyT : ℕ
 onlyT = 8
 
--- the letters and their sets: A, C, G and T; R, Y, S, W, K and M, two bases each; B all but A, D all but C, H all but G, V all but T; N all
+-- the letters and their sets: A, C, G, T; R A or G, Y C or T, S C or G, W A or T, K G or T, M A or C; B all but A, D all but C, H all but G, V all but T; N all
 abbrev pub code : List (ℕ × ℕ)
 code =
     (65, onlyA) ∷ (67, onlyC) ∷ (71, onlyG) ∷ (84, onlyT)

@@ -4,7 +4,7 @@ use native.Mathlib.Omega.{arith}
 use lib.ListN.{length}
 use borrow.Author.Needs.{needs}
 use Rattle.bits.proofs.Having.{has-one, has-not-one}
-use Rattle.primer_scans.proofs.Passed.{Scanned, scanned-start, scanned-end, scanned-place, scanned-none, place-inside}
+use Rattle.primer_scans.proofs.Scanned.{Scanned, scanned-start, scanned-end, scanned-place, scanned-none, place-inside}
 use Rattle.primer_scans.proofs.scan.Statement.{statement}
 use Rattle.primer_scans.proofs.scan.Tie as tie
 
