@@ -1,21 +1,14 @@
 -- The tables of the code, and the moved bits, are the definitions' at each letter and at each set: one test for each, which antt computes. Assumes nothing.
 use Prim.Native.Nat.{ℕ, _+_, _-_, _*_, _/_, _%_, _≤_, _<_}
 use mathlib.Core.Path.{_≡_, refl, ap, _∙_}
-use mathlib.Core.Bool.{true}
 use mathlib.Core.List.{List, [], _∷_}
 use native.Mathlib.Omega.{arith}
 use lib.ListN.{getD}
 use lib.Bits.{bitAnd, bitOr}
-use lib.Dec.{eqb}
-use borrow.Author.Tests.{eqb-true}
 use Rattle.bits.specs.Bits.{bit}
 use Rattle.words.specs.Range.{every, sum}
-use Rattle.words.proofs.Ranges.{every-at}
+use Rattle.words.proofs.Ranges.{every-same}
 use Rattle.words_primers.specs.Bases.{setIn, letterIn, setOf, letterFor, complementOf}
-
--- two functions are the same over a range
-over : (f g : ℕ → ℕ) (d j : ℕ) → every (λ k. eqb (f k) (g k)) d j ≡ true → (k : ℕ) → j ≤ k → k < j + d → f k ≡ g k
-over f g d j t k a b = eqb-true (f k) (g k) (every-at (λ v. eqb (f v) (g v)) d j t k a b)
 
 -- the sets of A to Z, and of no byte before or after them
 abbrev pub sets : List ℕ
@@ -24,17 +17,17 @@ sets = 1 ∷ 14 ∷ 2 ∷ 13 ∷ 0 ∷ 0 ∷ 4 ∷ 11 ∷ 0 ∷ 0 ∷ 12 ∷ 0 �
 module _ (b : ℕ) where
   pub set-before : b < 65 → 0 ≡ setOf b
   unfolding every setOf setIn
-  set-before h = over (λ k. 0) setOf 65 0 refl b (omega arith) h
+  set-before h = every-same (λ k. 0) setOf 65 0 refl b (omega arith) h
 
   pub set-behind : 90 < b → b < 256 → 0 ≡ setOf b
   unfolding every setOf setIn
-  set-behind h l = over (λ k. 0) setOf 165 91 refl b h l
+  set-behind h l = every-same (λ k. 0) setOf 165 91 refl b h l
 
   pub set-between : 65 ≤ b → b ≤ 90 → getD sets (b - 65) 0 ≡ setOf b
   unfolding every setOf setIn
   set-between l h =
       let back : 65 + (b - 65) ≡ b = omega arith in
-      over (λ k. getD sets k 0) (λ k. setOf (65 + k)) 26 0 refl (b - 65) (omega arith) (omega arith) ∙ ap setOf back
+      every-same (λ k. getD sets k 0) (λ k. setOf (65 + k)) 26 0 refl (b - 65) (omega arith) (omega arith) ∙ ap setOf back
 
 -- the letters of the sixteen sets
 abbrev pub letters : List ℕ
@@ -47,8 +40,8 @@ moved s = bitOr (bitOr (bitOr (bitAnd s 1 * 8 % 256) (bitAnd s 2 * 2 % 256)) (bi
 module _ (s : ℕ) (small : s < 16) where
   pub letter-at : getD letters s 0 ≡ letterFor s
   unfolding every letterFor letterIn
-  letter-at = over (λ k. getD letters k 0) letterFor 16 0 refl s (omega arith) small
+  letter-at = every-same (λ k. getD letters k 0) letterFor 16 0 refl s (omega arith) small
 
   pub moved-is : moved s ≡ complementOf s
   unfolding every sum bit complementOf
-  moved-is = over moved complementOf 16 0 refl s (omega arith) small
+  moved-is = every-same moved complementOf 16 0 refl s (omega arith) small

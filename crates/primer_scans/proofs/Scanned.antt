@@ -29,32 +29,32 @@ module _ (x u : List ℕ) where
       shown : has w (length u - 1) ≡ front x u (suc j) (length u - 1)
       shown = F .each (length u - 1) (omega arith)
 
-      -- it ends here: its place is one more
-      pub place-here : has w (length u - 1) ≡ true → (length u ≤ suc j) × (placesTo (suc j) ≡ placesTo j ++ ((suc j - (length u - 1)) ∷ []))
+      onward : length u ≤ suc j → suc j + 1 - length u ≡ j + 1 - length u + 1
+      onward l = omega arith
+
+      -- the last bit tells whether the primer sits where it ends here
+      tells : length u ≤ suc j → has w (length u - 1) ≡ sits x u (j + 1 - length u + 1)
+      tells l = shown ∙ front-whole x u (suc j) some l inside ∙ ap (sits x u) (onward l)
+
+      -- it does: its place is one more
+      place-here : has w (length u - 1) ≡ true → (length u ≤ suc j) × (placesTo (suc j) ≡ placesTo j ++ ((suc j - (length u - 1)) ∷ []))
       place-here t = ⊎-elim (λ l. clash (sym shown ∙ t) (front-short x u (suc j) some l)) (λ l. (l, more l)) (lt-or-ge (suc j) (length u))
         where
           more : length u ≤ suc j → placesTo (suc j) ≡ placesTo j ++ ((suc j - (length u - 1)) ∷ [])
-          more l =
-              let d : suc j + 1 - length u ≡ j + 1 - length u + 1 = omega arith in
-              let e : suc j - (length u - 1) ≡ j + 1 - length u + 1 = omega arith in
-              rw (d, e)
-              (next-passes (sits x u) (j + 1 - length u) (subst (λ (v : ℕ). sits x u v ≡ true) d (sym (front-whole x u (suc j) some l inside) ∙ sym shown ∙ t)))
+          more l = let e : suc j - (length u - 1) ≡ j + 1 - length u + 1 = omega arith in rw (onward l, e) (next-passes (sits x u) (j + 1 - length u) (sym (tells l) ∙ t))
 
       -- it does not
-      pub no-place-here : has w (length u - 1) ≡ false → placesTo (suc j) ≡ placesTo j
+      no-place-here : has w (length u - 1) ≡ false → placesTo (suc j) ≡ placesTo j
       no-place-here f = ⊎-elim (λ l. ap (λ (v : ℕ). passing (sits x u) v 1) (omega arith)) more (lt-or-ge (suc j) (length u))
         where
           more : length u ≤ suc j → placesTo (suc j) ≡ placesTo j
-          more l =
-              let d : suc j + 1 - length u ≡ j + 1 - length u + 1 = omega arith in
-              ap (λ (v : ℕ). passing (sits x u) v 1) d
-              ∙ next-fails (sits x u) (j + 1 - length u) (subst (λ (v : ℕ). sits x u v ≡ false) d (sym (front-whole x u (suc j) some l inside) ∙ sym shown ∙ f))
+          more l = ap (λ (v : ℕ). passing (sits x u) v 1) (onward l) ∙ next-fails (sits x u) (j + 1 - length u) (sym (tells l) ∙ f)
 
     -- none ends before the first position, and all end in the read
-    pub places-start : placesTo 0 ≡ []
+    places-start : placesTo 0 ≡ []
     places-start = let e : 0 + 1 - length u ≡ 0 = omega arith in rw e (passing-none (sits x u) 1)
 
-    pub places-end : placesTo (length x) ≡ places x u
+    places-end : placesTo (length x) ≡ places x u
     unfolding places
     places-end =
         sym (passing-stop (sits x u) (length x + 1 - length u) (length x) (omega arith) (λ k a b. sits-outside x u k (omega arith)))
@@ -89,7 +89,7 @@ module _ (x u old : List ℕ) (some : 1 ≤ length u) where
     one : suc j ≡ j + 1
     one = omega arith
 
-    pub next-fronts : Fronts x u (suc j) next
+    next-fronts : Fronts x u (suc j) next
     unfolding at
     next-fronts = let e : suc j - 1 ≡ j = omega arith in fronts-more x u j w s (getD all s 0) (S .fronts) (A .each s low) (A .words .fits s low) (ap (λ (v : ℕ). setOf (getD x v 0)) e ∙ sym here)
 

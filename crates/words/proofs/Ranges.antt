@@ -7,6 +7,8 @@ use mathlib.Core.List.{List, [], _∷_, _++_, append-assoc}
 use native.Mathlib.Omega.{arith}
 use native.Mathlib.Nat.{eq-or-lt-of-le, suc-add, zero-add, add-zero}
 use lib.ListN.{length, getD}
+use lib.Dec.{eqb}
+use borrow.Author.Tests.{eqb-true}
 use Rattle.words.specs.Range.{first, every, gather, cells, column, leader}
 use Rattle.words.specs.Reads.{at}
 use Rattle.words.proofs.Tests.{and-left, and-right, and-both, clash, same-test, lt-or-ge}
@@ -88,6 +90,10 @@ every-fails p (suc d) j e = go (p j) refl (λ t. every-fails p d (suc j) t)
     go : (b : Bool) → p j ≡ b → (every p d (suc j) ≡ false → (k : ℕ) × (suc j ≤ k) × (k < suc j + d) × (p k ≡ false)) → (k : ℕ) × (j ≤ k) × (k < j + suc d) × (p k ≡ false)
     go true q h = let w = h (sym (every-hit p d j q) ∙ e) in (w .0, omega (arith, w .1), omega (arith, w .2), w .3)
     go false q h = (j, omega arith, omega arith, q)
+
+-- two functions that are the same at every number of the range
+pub every-same : (f g : ℕ → ℕ) (d j : ℕ) → every (λ k. eqb (f k) (g k)) d j ≡ true → (k : ℕ) → j ≤ k → k < j + d → f k ≡ g k
+every-same f g d j t k a b = eqb-true (f k) (g k) (every-at (λ v. eqb (f v) (g v)) d j t k a b)
 
 -- one number more at the end of the range
 pub every-more : (p : ℕ → Bool) (d j : ℕ) → every p (suc d) j ≡ every p d j && p (j + d)

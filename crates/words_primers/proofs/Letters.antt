@@ -11,7 +11,7 @@ use borrow.Author.Tests.{eqb-true, eqb-false, ltb-true}
 use Rattle.words.specs.Range.{every}
 use Rattle.words.specs.Reads.{unread}
 use Rattle.words.proofs.Tests.{either, and-left, and-right}
-use Rattle.words.proofs.Ranges.{every-at}
+use Rattle.words.proofs.Ranges.{every-same}
 use Rattle.words_primers.specs.Bases.{code, setIn, letterIn, setOf, letterFor}
 
 -- a test of a letter and its set passes at each entry of such a list
@@ -52,4 +52,4 @@ unread-set = refl
 -- the set of its letter is the set
 pub set-back : (s : ℕ) → s < 16 → setOf (letterFor s) ≡ s
 unfolding every setOf setIn letterFor letterIn
-set-back s h = eqb-true _ s (every-at (λ v. eqb (setOf (letterFor v)) v) 16 0 refl s (omega arith) h)
+set-back s h = every-same (λ v. setOf (letterFor v)) (λ v. v) 16 0 refl s (omega arith) h

@@ -7,11 +7,11 @@ use mathlib.Core.Bool.{Bool, true, false, _&&_, _||_, not}
 use native.Mathlib.Omega.{arith}
 use lib.Bits.{bitAnd}
 use lib.Dec.{eqb, ltb}
-use borrow.Author.Tests.{eqb-true, eqb-false, ne-eqb, ltb-true, not-true}
+use borrow.Author.Tests.{eqb-false, ne-eqb, ltb-true, not-true}
 use Rattle.bits.specs.Bits.{bit, has}
 use Rattle.words.specs.Range.{every, sum}
 use Rattle.words.proofs.Tests.{and-left, and-right, and-both, clash}
-use Rattle.words.proofs.Ranges.{every-at, every-of}
+use Rattle.words.proofs.Ranges.{every-at, every-of, every-same}
 use Rattle.words_primers.specs.Bases.{lies, matches, complementOf}
 
 -- two tests agree
@@ -91,7 +91,7 @@ module _ (s : ℕ) (small : s < 16) where
 
   pub complement-twice : complementOf (complementOf s) ≡ s
   unfolding every sum bit complementOf
-  complement-twice = eqb-true _ s (at-set (λ v. eqb (complementOf (complementOf v)) v) refl s small)
+  complement-twice = every-same (λ v. complementOf (complementOf v)) (λ v. v) 16 0 refl s (omega arith) small
 
   -- the complement of a set has T where the set has A, G where it has C, and so on
   pub complement-has : (k : ℕ) → k < 4 → has (complementOf s) k ≡ has s (3 - k)

@@ -22,10 +22,10 @@ unfolding turned
 turned-set b = set-back (complementOf (setOf b)) (complement-small (setOf b) (set-small b))
 
 -- a complement that is empty is that of the empty set
-pub turned-own : (b : ℕ) → setOf b ≢ 0 → setOf (turned b) ≢ 0
+turned-own : (b : ℕ) → setOf b ≢ 0 → setOf (turned b) ≢ 0
 turned-own b own z = own (sym (complement-twice (setOf b) (set-small b)) ∙ ap complementOf (sym (turned-set b) ∙ z) ∙ complement-none)
 
-pub turned-twice : (b : ℕ) → setOf b ≢ 0 → turned (turned b) ≡ b
+turned-twice : (b : ℕ) → setOf b ≢ 0 → turned (turned b) ≡ b
 unfolding turned
 turned-twice b own = ap (λ (v : ℕ). letterFor (complementOf v)) (turned-set b) ∙ ap letterFor (complement-twice (setOf b) (set-small b)) ∙ letter-back b own
 
@@ -38,19 +38,6 @@ pub record Primer (u : List ℕ) : Type 0 where
   pub own : (k : ℕ) → k < length u → setOf (getD u k 0) ≢ 0
 
 module _ (u : List ℕ) where
-  -- no letter is foreign
-  pub none-foreign : length u ≤ firstForeign u → (k : ℕ) → k < length u → setOf (getD u k 0) ≢ 0
-  unfolding firstForeign foreign
-  none-foreign h k l = eqb-false (setOf (getD u k 0)) 0 (found (foreign u) (length u) 0 .least k (omega arith) (omega (arith, h)))
-
-  pub all-own : ((k : ℕ) → k < length u → setOf (getD u k 0) ≢ 0) → length u ≤ firstForeign u
-  unfolding firstForeign foreign
-  all-own own =
-      ⊎-elim
-      (λ l. absurd (own (firstForeign u) l (eqb-true (setOf (getD u (firstForeign u) 0)) 0 (found (foreign u) (length u) 0 .pass (omega (arith, l))))))
-      (λ l. l)
-      (lt-or-ge (firstForeign u) (length u))
-
   -- the first foreign letter is one, and none before it is
   pub foreign-at : firstForeign u < length u → setOf (getD u (firstForeign u) 0) ≡ 0
   unfolding firstForeign foreign
@@ -59,6 +46,13 @@ module _ (u : List ℕ) where
   pub foreign-first : (k : ℕ) → k < firstForeign u → setOf (getD u k 0) ≢ 0
   unfolding firstForeign foreign
   foreign-first k l = eqb-false (setOf (getD u k 0)) 0 (found (foreign u) (length u) 0 .least k (omega arith) l)
+
+  -- it lies behind the last exactly if no letter is foreign
+  pub none-foreign : length u ≤ firstForeign u → (k : ℕ) → k < length u → setOf (getD u k 0) ≢ 0
+  none-foreign h k l = foreign-first k (omega arith)
+
+  pub all-own : ((k : ℕ) → k < length u → setOf (getD u k 0) ≢ 0) → length u ≤ firstForeign u
+  all-own own = ⊎-elim (λ l. absurd (own (firstForeign u) l (foreign-at l))) (λ l. l) (lt-or-ge (firstForeign u) (length u))
 
   -- ---- its reverse complement
 
