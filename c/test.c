@@ -576,24 +576,26 @@ static void null_calls(void)
     expect(names[0] == 7 && names[3] == 7, "an empty list leaves the slice as it was");
     same(sorunggyeo_replay(aaaa, 4, NULL, 0, 2, names, 4), 0, 4);
     expect(names[0] == 1 && names[3] == 1, "nothing moves by an empty log");
+    sorunggyeo_answer both = sorunggyeo_list_index(aaaa, 4, 0, slice, 9, NULL, 0);
+    expect(both.number == SORUNGGYEO_INDEX_FULL && both.value == 1 && both.more == 0, "an index without room");
+    both = sorunggyeo_list_index(NULL, 0, 0, NULL, 0, NULL, 0);
+    expect(both.number == SORUNGGYEO_OK && both.value == 0 && both.more == 0, "list and index of an empty read");
+}
+
+/* the same for the calls that take little stack: apart, so that the frame above those that take much stays small */
+static void null_others(void)
+{
+    const uint8_t *aaaa = (const uint8_t *)"AAAA";
+    const uint16_t line[3] = {1, 1, 4};
+    same(sorunggyeo_find_primer(NULL, 0, NULL, 0, NULL, 0), 8, 0), same(sorunggyeo_find_primer(NULL, 0, aaaa, 4, NULL, 0), 0, 0), same(sorunggyeo_find_primer(aaaa, 4, aaaa, 4, NULL, 0), 3, 1);
+    same(sorunggyeo_reverse_complement(NULL, 0, NULL, 0), 8, 0), same(sorunggyeo_reverse_complement(aaaa, 4, NULL, 0), 4, 4);
     same(sorunggyeo_claim(NULL, 0, 0, 0, 0), 0, SORUNGGYEO_CLAIM_OUTSIDE), same(sorunggyeo_claim(NULL, 0, 1, 1, 2), 0, SORUNGGYEO_CLAIM_OUTSIDE);
     sorunggyeo_part u = sorunggyeo_motif(NULL, 0, 1, 1, 2);
     expect(u.from == 0 && u.count == 0, "an empty read has no motif");
     sorunggyeo_move m = sorunggyeo_next(NULL, 0, 5);
     expect(!m.found && m.at == 5, "an empty log has ended");
-    sorunggyeo_answer both = sorunggyeo_list_index(aaaa, 4, 0, slice, 9, NULL, 0);
-    expect(both.number == SORUNGGYEO_INDEX_FULL && both.value == 1 && both.more == 0, "an index without room");
-    both = sorunggyeo_list_index(NULL, 0, 0, NULL, 0, NULL, 0);
-    expect(both.number == SORUNGGYEO_OK && both.value == 0 && both.more == 0, "list and index of an empty read");
-    same(sorunggyeo_index(NULL, 0, NULL, 0), 0, 0), same(sorunggyeo_index(names, 3, NULL, 0), 7, 1), same(sorunggyeo_index(NULL, 0, wide, 4), 0, 0);
+    same(sorunggyeo_index(NULL, 0, NULL, 0), 0, 0), same(sorunggyeo_index(line, 3, NULL, 0), 7, 1), same(sorunggyeo_index(NULL, 0, wide, 4), 0, 0);
     expect(!sorunggyeo_lookup(NULL, 0, 0).found, "an empty index has no entry");
-}
-
-static void null_primers(void)
-{
-    const uint8_t *aaaa = (const uint8_t *)"AAAA";
-    same(sorunggyeo_find_primer(NULL, 0, NULL, 0, NULL, 0), 8, 0), same(sorunggyeo_find_primer(NULL, 0, aaaa, 4, NULL, 0), 0, 0), same(sorunggyeo_find_primer(aaaa, 4, aaaa, 4, NULL, 0), 3, 1);
-    same(sorunggyeo_reverse_complement(NULL, 0, NULL, 0), 8, 0), same(sorunggyeo_reverse_complement(aaaa, 4, NULL, 0), 4, 4);
 }
 
 static int run(int argc, char **argv)
@@ -623,7 +625,7 @@ static int run(int argc, char **argv)
         if (!stored) return 1;
         print_primers(stored);
     } else if (!strcmp(what, "calls")) {
-        short_calls(), long_calls(), byte_calls(), index_calls(), unread_calls(), runs_calls(), claim_calls(), primer_calls(), null_calls(), null_primers(), long_list();
+        short_calls(), long_calls(), byte_calls(), index_calls(), unread_calls(), runs_calls(), claim_calls(), primer_calls(), null_calls(), null_others(), long_list();
     } else {
         return 1;
     }
