@@ -50,13 +50,27 @@ static void find_long(const uint8_t *x, size_t n) { sorunggyeo_find_primer(x, n,
 static void find_any(const uint8_t *x, size_t n) { sorunggyeo_find_primer(x, n, any, SORUNGGYEO_PRIMER_MOST, out, MOST); }
 static void find_base(const uint8_t *x, size_t n) { sorunggyeo_find_primer(x, n, any, 1, out, MOST); }
 static void turn(const uint8_t *x, size_t n) { (void)n, sorunggyeo_reverse_complement(x, SORUNGGYEO_PRIMER_MOST, turned, SORUNGGYEO_PRIMER_MOST); }
+/* a marker of the read's ends and a motif, which is AC or, of a quarter of the read, A .. A C; a house list of 1,000 lines that are AC */
+static uint8_t motif[MOST], house[3 * MOST];
+static size_t period;
+static void of_two(const uint8_t *x, size_t n)
+{
+    (void)x, (void)n;
+    period = 2, motif[0] = 'A', motif[1] = 'C';
+    for (size_t k = 0; k < sizeof house; k++) house[k] = "AC\n"[k % 3];
+}
+static void of_quarter(const uint8_t *x, size_t n) { (void)x, period = n / 4, memset(motif, 'A', period), motif[period - 1] = 'C'; }
+static void score(const uint8_t *x, size_t n) { sorunggyeo_score(x, n, x, 20, x + n - 20, 20, motif, period, 5); }
+static void score_ends(const uint8_t *x, size_t n) { sorunggyeo_score(x, n, x, 1, x + n - 1, 1, motif, period, 5); }
+static void shown(const uint8_t *x, size_t n) { sorunggyeo_shown(x, n, house, sizeof house, 999, x, 1, x + n - 1, 1, motif, period); }
 static void claim_whole(const uint8_t *x, size_t n) { sorunggyeo_claim(x, n, 1, n, 1); }
 
 static const struct { const char *name; void (*before)(const uint8_t *, size_t), (*call)(const uint8_t *, size_t); } calls[] = {
     {"list", nothing, list}, {"runs", nothing, runs}, {"table", nothing, table}, {"log", nothing, own}, {"replay", own, replay}, {"replay_all", all, replay},
     {"list_index", nothing, both}, {"list_index_exact", lined, both_exact}, {"index", lined, alone}, {"lookup", lined, lookup},
     {"claim", nothing, claim}, {"claim_bases", nothing, claim_bases}, {"claim_whole", nothing, claim_whole},
-    {"find", nothing, find}, {"find_long", nothing, find_long}, {"find_any", nothing, find_any}, {"find_base", nothing, find_base}, {"turn", nothing, turn}};
+    {"find", nothing, find}, {"find_long", nothing, find_long}, {"find_any", nothing, find_any}, {"find_base", nothing, find_base}, {"turn", nothing, turn},
+    {"score", of_two, score}, {"score_ends", of_two, score_ends}, {"score_quarter", of_quarter, score_ends}, {"shown", of_two, shown}};
 
 int main(int argc, char **argv)
 {

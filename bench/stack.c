@@ -6,7 +6,7 @@
 
 enum { ROOM = 1 << 20, FILL = 0xa5, NEAR = 256 };
 static uint8_t stack[ROOM] __attribute__((aligned(4096)));
-static uint8_t read[SORUNGGYEO_MOST];
+static uint8_t read[SORUNGGYEO_MOST], marked[SORUNGGYEO_MOST]; /* the second has primers G and T at its ends, and AC between them */
 static uint16_t out[30000], log_[SORUNGGYEO_LOG_MOST];
 static uint8_t turned[SORUNGGYEO_PRIMER_MOST];
 static uint64_t beside[4 * SORUNGGYEO_PERIODS];
@@ -25,11 +25,14 @@ static void claim(void) { sorunggyeo_claim(read, sizeof read, 1, 2, 250); }
 static void motif(void) { sorunggyeo_motif(read, sizeof read, 1, 2, 250); }
 static void find(void) { sorunggyeo_find_primer(read, sizeof read, read, SORUNGGYEO_PRIMER_MOST, out, 1000); }
 static void turn(void) { sorunggyeo_reverse_complement(read, SORUNGGYEO_PRIMER_MOST, turned, SORUNGGYEO_PRIMER_MOST); }
+static void score(void) { sorunggyeo_score(marked, sizeof marked, marked, 1, marked + sizeof marked - 1, 1, marked + 1, 2, 5); }
+static void shown(void) { sorunggyeo_shown(marked, sizeof marked, read, 0, 0, marked, 1, marked + sizeof marked - 1, 1, marked + 1, 2); }
 static void next(void) { sorunggyeo_next(log_, 3 * moves, 0); }
 
 static const struct { const char *name; void (*call)(void); } calls[] = {
     {"list", list}, {"runs", runs}, {"list_index", list_index}, {"list_index, counted first", counted_first}, {"index", index_}, {"lookup", lookup},
-    {"group_table", group_table}, {"log", make_log}, {"replay", replay}, {"claim", claim}, {"motif", motif}, {"find_primer", find}, {"reverse_complement", turn}, {"next", next}};
+    {"group_table", group_table}, {"log", make_log}, {"replay", replay}, {"claim", claim}, {"motif", motif}, {"find_primer", find}, {"reverse_complement", turn},
+    {"score", score}, {"shown", shown}, {"next", next}};
 
 /* what a call leaves alone within NEAR bytes of the caller's frame is not seen */
 static void *measure(void *unused)
@@ -51,6 +54,7 @@ int main(void)
     pthread_attr_t attr;
     pthread_t thread;
     for (size_t i = 0; i < sizeof read; i++) read[i] = "ACCA"[i % 2 + (i < 500 ? 0 : 2)];
+    for (size_t i = 0; i < sizeof marked; i++) marked[i] = i == 0 ? 'G' : i + 1 == sizeof marked ? 'T' : "CA"[i % 2];
     pthread_attr_init(&attr);
     pthread_attr_setstack(&attr, stack, ROOM);
     pthread_create(&thread, &attr, measure, NULL);

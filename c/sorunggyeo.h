@@ -40,7 +40,12 @@ enum {
     SORUNGGYEO_OUT_OF_PLACE = 6,  /* the list handed in is not strictly in order, or is cut; the value is the first line out of place; nothing is changed */
     SORUNGGYEO_INDEX_FULL = 7,    /* the index has room for fewer entries than there are; the value is the entries; nothing is changed, the list neither */
     SORUNGGYEO_BAD_LENGTH = 8,    /* the primer has no letter, or more than 60; the value is its length; nothing is changed */
-    SORUNGGYEO_FOREIGN = 9        /* the primer has a byte that is no letter of the code; the value is the index of the first, from 0; nothing is changed */
+    SORUNGGYEO_FOREIGN = 9,       /* the primer has a byte that is no letter of the code; the value is the index of the first, from 0; nothing is changed */
+    SORUNGGYEO_MISSING = 10,      /* a primer sits nowhere in the read; the value is 1 for the left one, else 2 */
+    SORUNGGYEO_MORE_THAN_ONCE = 11, /* a primer sits more than once; the value is 1 for the left one, else 2 */
+    SORUNGGYEO_OUT_OF_ORDER = 12, /* the right primer does not start behind the left one's end: they are out of order, or overlap; the value is 0 */
+    SORUNGGYEO_NO_REPEAT = 13,    /* no leading repeat has the motif and lies wholly between the primers; the value is 0 */
+    SORUNGGYEO_SEVERAL = 14       /* more than one does; the value is 0 */
 };
 
 /* what a claim is told: the value of sorunggyeo_claim where it is not refused. There is no 0: a program that took 0 for no must be written anew */
@@ -55,7 +60,7 @@ enum {
 typedef struct {
     uint32_t number;
     uint64_t value;
-    uint64_t more; /* a second value, of sorunggyeo_list_index and of sorunggyeo_claim; 0 where there is none */
+    uint64_t more; /* a second value, of sorunggyeo_list_index, of sorunggyeo_claim and, signed, of sorunggyeo_score; 0 where there is none */
 } sorunggyeo_answer;
 
 /* a part of a read: `count` bytes from read + from on */
@@ -63,6 +68,13 @@ typedef struct {
     size_t from;
     size_t count;
 } sorunggyeo_part;
+
+/* a part of the house list where `house` is 1, of the read where it is 0: `count` bytes from house + from or read + from on; all 0 of a read not scored */
+typedef struct {
+    uint32_t house;
+    size_t from;
+    size_t count;
+} sorunggyeo_shown_part;
 
 /* an entry of a log where found is 1, all 0 where it is 0; `at` is the place to go on from */
 typedef struct {
@@ -119,6 +131,18 @@ sorunggyeo_answer sorunggyeo_find_primer(const uint8_t *read, size_t n, const ui
 /* The reverse complement of the primer to the front of `letters`, which must not be the primer itself; taken twice it gives the primer back. The value is the number of letters.
    Refuses by 8, 9, 4, in this order. */
 sorunggyeo_answer sorunggyeo_reverse_complement(const uint8_t *primer, size_t m, uint8_t *letters, size_t room);
+
+/* The score of the read by a marker of a left and a right primer, a motif and a reference count, any byte: each primer sits exactly once, left before right without overlap, and
+   exactly one leading repeat of the whole read has that motif and lies wholly between them. The value is its copies, and `more` how many more than the reference they are, signed:
+   (int64_t)a.more. The motif is any bytes; no repeat has one that is empty, holds an N, or is a shorter one repeated. Refuses by 1, 8, 9, 10, 11, 12, 13, 14; 8 to 11 each for the left
+   primer first. */
+sorunggyeo_answer sorunggyeo_score(const uint8_t *read, size_t n, const uint8_t *left, size_t left_letters, const uint8_t *right, size_t right_letters,
+                                   const uint8_t *motif, size_t period, uint8_t reference);
+
+/* The motif shown for a marker of this number: the line of the house list if that line is the motif, otherwise the first copy of the repeat that is scored; of a read not scored the
+   empty part at its front. The house list is `bytes` bytes of text, one motif a line, split at newlines alone, lines counted from 0. */
+sorunggyeo_shown_part sorunggyeo_shown(const uint8_t *read, size_t n, const uint8_t *house, size_t bytes, uint32_t number, const uint8_t *left, size_t left_letters,
+                                       const uint8_t *right, size_t right_letters, const uint8_t *motif, size_t period);
 
 /* The next whole entry of a log as it stands, and the place one further; or that the log has ended, and the place kept. */
 sorunggyeo_move sorunggyeo_next(const uint16_t *log, size_t numbers, size_t at);

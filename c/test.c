@@ -5,9 +5,10 @@
      test two_letters                          the runs of all words of A and C up to 12 letters, summed up length by length
      test indexes < READS                      every read's period index, made with the list and from the list alone
      test primers PRIMERS < READS              the places of the primers that the file PRIMERS has for every read, and their reverse complements
+     test markers MARKERS < READS              the scores by the markers that the file MARKERS has for every read, and the motifs shown
      test tables TABLES < READS                every read's tables at the widths that the file TABLES has
      test calls                                what crates/run_calls prints, and the calls on empty slices that are null
-   Besides, no answer but two has a second value, in `indexes` each period is looked up, in `lists` each line is claimed, also with a copy more or less, and its motif taken, in `runs` each is looked at base by base, in `logs` the log is walked by the reader, in `primers` each primer is looked for on the other strand too, and in
+   Besides, no answer but three has a second value, in `indexes` each period is looked up, in `lists` each line is claimed, also with a copy more or less, and its motif taken, in `runs` each is looked at base by base, in `logs` the log is walked by the reader, in `primers` each primer is looked for on the other strand too, in `markers` each score is found again by the leading list, and in
    `tables` the replay of the read's own log must give the same table; what fails prints a line that no stored output has. All runs on a thread with as
    small a stack as docs/C.md says will do: a call that takes more ends the program. */
 #include "sorunggyeo.h"
@@ -28,7 +29,7 @@ static void expect(int ok, const char *what)
     if (!ok) printf("wrong: %s\n", what);
 }
 
-/* an answer of one value, as all are but that of list and index in one, and of a claim */
+/* an answer of one value, as all are but that of list and index in one, of a claim, and of a score */
 static sorunggyeo_answer one(sorunggyeo_answer a)
 {
     expect(a.more == 0, "there is no second value");
@@ -237,6 +238,88 @@ static void print_primers(FILE *stored)
             printf("read %zu\n", n);
         } else {
             print_primer(n, word);
+        }
+        for (int c; (c = getc(stored)) != '\n' && c != EOF;) {}
+    }
+}
+
+/* a marker with its number, and the house list for all of them: the words of the stored file's first line */
+struct marker { char left[SORUNGGYEO_PRIMER_MOST + 1], right[SORUNGGYEO_PRIMER_MOST + 1]; unsigned start, period, reference, number; };
+static struct marker marker;
+static uint8_t house[256];
+static size_t house_bytes, leading;
+
+static void add_house(const char *line)
+{
+    size_t m = strlen(line), gap = house_bytes > 0;
+    if (house_bytes + gap + m > sizeof house) return;
+    if (gap) house[house_bytes] = '\n';
+    memcpy(house + house_bytes + gap, line, m);
+    house_bytes += gap + m;
+}
+
+static sorunggyeo_answer score_marker(size_t n)
+{
+    return sorunggyeo_score(read, n, (const uint8_t *)marker.left, strlen(marker.left), (const uint8_t *)marker.right, strlen(marker.right), read + marker.start - 1, marker.period, marker.reference);
+}
+
+static sorunggyeo_shown_part show_marker(size_t n, size_t bytes)
+{
+    return sorunggyeo_shown(read, n, bytes ? house : NULL, bytes, marker.number, (const uint8_t *)marker.left, strlen(marker.left), (const uint8_t *)marker.right, strlen(marker.right), read + marker.start - 1, marker.period);
+}
+
+/* how often a primer sits; the last place is written */
+static size_t seats(size_t n, const char *letters, size_t *place)
+{
+    size_t found = one(sorunggyeo_find_primer(read, n, (const uint8_t *)letters, strlen(letters), table, SORUNGGYEO_MOST)).value;
+    if (found) *place = table[found - 1];
+    return found;
+}
+
+/* the number once more, by the places of the primers and the lines of the leading list; and the line that is scored */
+static uint32_t score_again(size_t n, const uint16_t **line)
+{
+    size_t low = 0, high = 0, found = 0, a = seats(n, marker.left, &low), b = seats(n, marker.right, &high), p = marker.period;
+    low += strlen(marker.left);
+    if (!a || !b) return SORUNGGYEO_MISSING;
+    if (a > 1 || b > 1) return SORUNGGYEO_MORE_THAN_ONCE;
+    if (high < low) return SORUNGGYEO_OUT_OF_ORDER;
+    for (const uint16_t *l = list; l < list + SORUNGGYEO_LINE * leading; l += SORUNGGYEO_LINE)
+        if (l[1] == p && !memcmp(read + l[0] - 1, read + marker.start - 1, p) && low <= l[0] && l[0] + p * l[2] <= high) found++, *line = l;
+    return found == 1 ? SORUNGGYEO_OK : found ? SORUNGGYEO_SEVERAL : SORUNGGYEO_NO_REPEAT;
+}
+
+static void print_marker(size_t n)
+{
+    sorunggyeo_answer a = score_marker(n);
+    sorunggyeo_shown_part s = show_marker(n, house_bytes), plain = show_marker(n, 0);
+    const uint16_t *line = list;
+    printf("%s %s %u %u %u %u: %u %llu %lld | %u %zu %zu\n", marker.left, marker.right, marker.start, marker.period, marker.reference, marker.number, a.number, (unsigned long long)a.value,
+           (long long)(int64_t)a.more, s.house, s.from, s.count);
+    expect(score_again(n, &line) == a.number, "the leading list gives the number");
+    expect(!memcmp((s.house ? house : read) + s.from, read + marker.start - 1, s.count), "the part shown is the motif");
+    expect(!plain.house && plain.count == s.count && (s.house || plain.from == s.from), "without a house list it is of the read");
+    if (a.number == SORUNGGYEO_OK) expect(a.value == line[2] && plain.from == line[0] - 1u && plain.count == marker.period, "and the line");
+    else expect(!a.more && !plain.from && !plain.count, "of a read not scored nothing is shown");
+}
+
+static void print_markers(FILE *stored)
+{
+    size_t n = 0;
+    while (fscanf(stored, "%60s", marker.left) == 1) {
+        if (!strcmp(marker.left, "house")) {
+            while (getc(stored) == ' ' && fscanf(stored, "%60s", marker.right) == 1) add_house(marker.right);
+            printf("house ");
+            for (size_t k = 0; k < house_bytes; k++) putchar(house[k] == '\n' ? ' ' : house[k]);
+            printf("\n");
+            continue;
+        }
+        if (!strcmp(marker.left, "read")) {
+            if (!next_read(&n)) return;
+            printf("read %zu\n", n);
+            leading = one(sorunggyeo_list(read, n, 1, list, LINES * SORUNGGYEO_LINE)).value;
+        } else if (fscanf(stored, "%60s %u %u %u %u", marker.right, &marker.start, &marker.period, &marker.reference, &marker.number) == 5) {
+            print_marker(n);
         }
         for (int c; (c = getc(stored)) != '\n' && c != EOF;) {}
     }
@@ -496,6 +579,120 @@ static void primer_calls(void)
     turn_on("ACN", 4), turn_on("ACN", 3), turn_on("ACN", 2), turn_on("ACN", 0), turn_on("A", 1), turn_on("ACGT", 4), turn_on(code, 15), turn_on("RWBASYNKMDCHGVT", 15);
 }
 
+static void score_in(const uint8_t *x, size_t n, const char *u, size_t a, const char *v, size_t b, const uint8_t *m, size_t p, uint8_t reference)
+{
+    printf("score\n");
+    answered_both(sorunggyeo_score(x, n, (const uint8_t *)u, a, (const uint8_t *)v, b, m, p, reference));
+}
+
+static void score_on(const char *x, const char *u, const char *v, const char *m, uint8_t reference)
+{
+    score_in((const uint8_t *)x, strlen(x), u, strlen(u), v, strlen(v), (const uint8_t *)m, strlen(m), reference);
+}
+
+static const char *marked = "GTTACACACTGG";
+
+/* primers of up to so many letters on that read, with the motif AC */
+static void long_on(const char *u, size_t a, const char *v, size_t b)
+{
+    score_in((const uint8_t *)marked, strlen(marked), u, a, v, b, (const uint8_t *)"AC", 2, 3);
+}
+
+static void primers_on(const char *u, const char *v)
+{
+    long_on(u, strlen(u), v, strlen(v));
+}
+
+static void shown_in(const uint8_t *x, size_t n, const uint8_t *h, size_t count, uint32_t number, const char *u, const char *v, const char *m)
+{
+    sorunggyeo_shown_part s = sorunggyeo_shown(x, n, h, count, number, (const uint8_t *)u, strlen(u), (const uint8_t *)v, strlen(v), (const uint8_t *)m, strlen(m));
+    printf("shown\npart %u %zu %zu\n", s.house, s.from, s.count);
+    bytes((s.house ? h : x) + s.from, s.count);
+}
+
+static void shown_on(const char *x, const char *h, uint32_t number, const char *u, const char *v, const char *m)
+{
+    shown_in((const uint8_t *)x, strlen(x), (const uint8_t *)h, strlen(h), number, u, v, m);
+}
+
+static void house_on(const char *h, uint32_t number)
+{
+    shown_on(marked, h, number, "GTT", "TGG", "AC");
+}
+
+static void score_calls(void)
+{
+    const char *x = marked, *l = "GTT", *r = "TGG", *twice = "GTTACACGACACTGG", *thrice = "GTTACACGACACGACACTGG";
+    score_on(x, l, r, "AC", 3), score_on(x, l, r, "AC", 2), score_on(x, l, r, "AC", 4), score_on(x, l, r, "AC", 0), score_on(x, l, r, "AC", 255), score_on(x, l, r, "CA", 255);
+    score_on(x, l, r, "", 0), score_on(x, l, r, "ACAC", 0), score_on(x, l, r, "ACACAC", 3), score_on(x, l, r, "A", 0), score_on(x, l, r, "T", 0), score_on(x, l, r, "G", 0);
+    score_on(x, l, r, "ac", 0), score_on(x, l, r, "AN", 0), score_on(x, l, r, "N", 0), score_on(x, l, r, "ACACACT", 0), score_on(x, l, r, x, 0), score_on(x, l, r, "GTTACACACTGGG", 0);
+    score_on(x, "GT", "GG", "AC", 3), score_on(x, "GTTA", r, "AC", 3), score_on(x, l, "CTGG", "AC", 3), score_on(x, "GTTA", "CTGG", "AC", 3);
+    score_on(x, "GTTA", "CTGG", "CA", 3), score_on(x, "GTTAC", "CTGG", "CA", 3), score_on(x, "GTTA", "ACTGG", "CA", 3);
+    score_on("GGACACACTT", "GA", "CT", "CA", 3), score_on("GGACACACTT", "GA", "CT", "AC", 3), score_on("GGACACACACTT", "GA", "TT", "AC", 3), score_on("GGACACACACTT", "GA", "TT", "CA", 3);
+    score_on("GTTACACACACTGG", l, r, "AC", 3), score_on("GTTAAAATGG", l, r, "A", 3);
+    score_on(twice, l, r, "AC", 3), score_on(twice, "GTTA", r, "AC", 3), score_on(twice, l, "CTGG", "AC", 3), score_on(twice, "GTTA", "CTGG", "AC", 3), score_on(twice, l, r, "CA", 3);
+    score_on(thrice, l, r, "AC", 3), score_on(thrice, l, r, "ACACG", 3), score_on("ACACGACACTACAC", "G", "T", "AC", 3);
+    score_on("GTTACACACNCTGG", l, r, "AC", 3), score_on("GTTACACNACACTGG", l, r, "AC", 3), score_on("GTTACNACACTGG", l, r, "AC", 3), score_on("GTTANANANTGG", l, r, "AN", 3);
+    score_on("GTTAnAnAnTGG", l, r, "An", 3), score_on("GTTARARARTGG", l, r, "AR", 3), score_on("GTNACACACTGG", l, r, "AC", 3), score_on("GTNACACACTGG", "GTN", r, "AC", 3);
+}
+
+static void seat_calls(void)
+{
+    static char longer[61], foreign[60];
+    memset(longer, 'A', 61), memset(foreign, 'A', 60), foreign[59] = 'U';
+    primers_on("KTT", "TSS"), primers_on("GNT", "YRG"), primers_on("N", "TGG"), primers_on("GTT", "VC");
+    primers_on("", ""), long_on("", 0, longer, 61), long_on(longer, 61, "", 0), primers_on("U", ""), long_on("U", 1, longer, 61), long_on(longer, 61, "U", 1);
+    primers_on("GTU", "U"), primers_on("U", "TGu"), long_on(foreign, 60, "U", 1), long_on("GTT", 3, foreign, 60), primers_on("AAA", "TGu"), long_on(longer, 60, "TGG", 3), long_on("GTT", 3, longer, 60);
+    primers_on("AAA", "AAA"), primers_on("AAA", "AC"), primers_on("AAA", "TGG"), primers_on("AC", "AAA"), primers_on("GTT", "AAA");
+    primers_on("AC", "CA"), primers_on("AC", "TGG"), primers_on("AC", "GTT"), primers_on("GTT", "AC"), primers_on("TGG", "AC");
+    score_on("GAAAT", "AA", "T", "A", 0), score_on("", "A", "T", "A", 0), score_on("", "", "T", "", 0);
+    primers_on("GTT", "GTT"), primers_on("TGG", "GTT"), primers_on("GTTACACACT", "TT"), primers_on("TT", "GTTA"), primers_on("GT", "GTT"), primers_on(marked, "TGG");
+    primers_on("GTTACA", "ACACT"), primers_on("GTTAC", "ACACT"), primers_on("GTTACACAC", "TGG");
+}
+
+/* on so many bytes of the long read, with the front of a motif */
+static void front_on(size_t n, const char *u, const char *v, const uint8_t *m, size_t p, uint8_t reference)
+{
+    score_in(read, n, u, strlen(u), v, strlen(v), m, p, reference);
+}
+
+static void limit_calls(void)
+{
+    static uint8_t half[499];
+    const uint8_t *text = (const uint8_t *)"C\nA", *a = text + 2;
+    memset(read, 'A', WIDE), memset(half, 'A', 498), half[498] = 'C';
+    front_on(1000, "A", "C", a, 1, 0), front_on(1000, "A", "A", a, 1, 0);
+    read[0] = 'G', read[999] = 'T';
+    front_on(1000, "G", "T", a, 1, 255), shown_in(read, 1000, text, 3, 1, "G", "T", "A"), shown_in(read, 1000, text, 3, 0, "G", "T", "A");
+    read[499] = read[998] = 'C';
+    front_on(1000, "G", "T", half, 499, 0), front_on(1000, "G", "T", half, 498, 0);
+    memset(read, 'A', WIDE);
+    front_on(1001, "C", "A", a, 1, 0), front_on(1001, "U", "", a, 0, 255), shown_in(read, 1001, a, 1, 0, "C", "A", "A");
+}
+
+static void shown_calls(void)
+{
+    const char *x = marked, *l = "GTT", *r = "TGG";
+    house_on("AC", 0), house_on("AC\n", 0), house_on("AC\nCA\nG", 0), house_on("CA\nAC", 1), house_on("CA\nAC\n", 1), house_on("CAC\nAC\nG", 1), house_on("\n\nAC", 2), house_on("\nAC\n\n", 1);
+    house_on("AC\nAC", 0), house_on("AC\nAC", 1);
+    house_on("CA\nAC", 0), house_on("AC\nCA", 1), house_on("CA\nAC", 2), house_on("CA\nAC\n", 2), house_on("CA\nAC\n", 3), house_on("AC", 1), house_on("AC", UINT32_MAX);
+    house_on("\n\nAC", 0), house_on("\n\nAC", 1), house_on("", 0), house_on("", 1), house_on("", UINT32_MAX);
+    house_on("ACA\nAC", 0), house_on("ACAC", 0), house_on("A\nC", 0), house_on("A\nC", 1), house_on("CA", 0), house_on("ac", 0), house_on("GAC", 0), house_on("GACT\nAC", 0), house_on("AC ", 0);
+    house_on("AC\r\nCA", 0), house_on("CA\n\rAC", 1);
+    shown_on("GTTA\nA\nA\nTGG", "A\nA\n", 0, l, r, "A\n"), shown_on("GTT\n\n\nTGG", "\n\n", 0, l, r, "\n"), shown_on("GTT\n\n\nTGG", "\n\n", 1, l, r, "\n");
+    shown_on(x, "AC\nCA", 1, l, r, "CA"), shown_on(x, "AC\nCA", 0, l, r, "CA");
+    shown_on(x, "AC", 0, "", r, "AC"), shown_on(x, "AC", 0, l, "TGu", "AC"), shown_on(x, "AC", 0, "AAA", r, "AC"), shown_on(x, "AC", 0, l, "AC", "AC"), shown_on(x, "AC", 0, r, l, "AC");
+    shown_on(x, "ACAC", 0, l, r, "ACAC"), shown_on(x, "", 0, l, r, ""), shown_on("GTTACACGACACTGG", "AC", 0, l, r, "AC"), shown_on("", "A", 0, "A", "A", "A");
+    static uint8_t text[2000];
+    memset(text, '\n', 1998), text[1998] = 'A', text[1999] = 'C';
+    for (int k = 0; k < 3; k++) shown_in((const uint8_t *)x, 12, text, 2000, k == 0 ? 1998 : k == 1 ? 1997 : 1999, l, r, "AC");
+}
+
+static void marker_calls(void)
+{
+    score_calls(), seat_calls(), limit_calls(), shown_calls();
+}
+
 /* a list of more lines than a u16 number can count: 70,000, of seven periods */
 static void long_list(void)
 {
@@ -589,6 +786,12 @@ static void null_others(void)
     const uint16_t line[3] = {1, 1, 4};
     same(sorunggyeo_find_primer(NULL, 0, NULL, 0, NULL, 0), 8, 0), same(sorunggyeo_find_primer(NULL, 0, aaaa, 4, NULL, 0), 0, 0), same(sorunggyeo_find_primer(aaaa, 4, aaaa, 4, NULL, 0), 3, 1);
     same(sorunggyeo_reverse_complement(NULL, 0, NULL, 0), 8, 0), same(sorunggyeo_reverse_complement(aaaa, 4, NULL, 0), 4, 4);
+    same(sorunggyeo_score(NULL, 0, NULL, 0, NULL, 0, NULL, 0, 0), 8, 0), same(sorunggyeo_score(NULL, 0, aaaa, 1, aaaa, 1, NULL, 0, 0), 10, 1);
+    same(sorunggyeo_score((const uint8_t *)"GAAT", 4, (const uint8_t *)"G", 1, (const uint8_t *)"T", 1, NULL, 0, 0), 13, 0);
+    sorunggyeo_shown_part s = sorunggyeo_shown(NULL, 0, NULL, 0, 0, NULL, 0, NULL, 0, NULL, 0);
+    expect(!s.house && !s.from && !s.count, "an empty read shows nothing");
+    s = sorunggyeo_shown((const uint8_t *)"GAAT", 4, NULL, 0, 0, (const uint8_t *)"G", 1, (const uint8_t *)"T", 1, aaaa, 1);
+    expect(!s.house && s.from == 1 && s.count == 1, "no house list has the marker");
     same(sorunggyeo_claim(NULL, 0, 0, 0, 0), 0, SORUNGGYEO_CLAIM_OUTSIDE), same(sorunggyeo_claim(NULL, 0, 1, 1, 2), 0, SORUNGGYEO_CLAIM_OUTSIDE);
     sorunggyeo_part u = sorunggyeo_motif(NULL, 0, 1, 1, 2);
     expect(u.from == 0 && u.count == 0, "an empty read has no motif");
@@ -624,8 +827,12 @@ static int run(int argc, char **argv)
         FILE *stored = fopen(argv[2], "r");
         if (!stored) return 1;
         print_primers(stored);
+    } else if (!strcmp(what, "markers") && argc > 2) {
+        FILE *stored = fopen(argv[2], "r");
+        if (!stored) return 1;
+        print_markers(stored);
     } else if (!strcmp(what, "calls")) {
-        short_calls(), long_calls(), byte_calls(), index_calls(), unread_calls(), runs_calls(), claim_calls(), primer_calls(), null_calls(), null_others(), long_list();
+        short_calls(), long_calls(), byte_calls(), index_calls(), unread_calls(), runs_calls(), claim_calls(), primer_calls(), marker_calls(), null_calls(), null_others(), long_list();
     } else {
         return 1;
     }

@@ -3,8 +3,8 @@
 import re
 from itertools import groupby
 from reads import Dice, DNA, every, few_unread, fibonacci, known, partial
-from rules import (LIMIT, LINES, answer_claim, answer_find, answer_group_table, answer_index, answer_list, answer_list_index, answer_log,
-                   answer_replay, answer_runs, answer_turn, entries, flat, groups_of, lines_of_groups, log, lookup, motif, moves, printed, replay, repeats, runs, small, table, top)
+from rules import (LIMIT, LINES, answer_claim, answer_find, answer_group_table, answer_index, answer_list, answer_list_index, answer_log, answer_replay, answer_runs,
+                   answer_score, answer_turn, entries, flat, groups_of, lines_of_groups, log, lookup, motif, moves, printed, replay, repeats, runs, shown_part, small, table, top)
 
 def text(reads):
     return b"".join(x + b"\n" for x in reads)
@@ -181,8 +181,69 @@ def primer_calls():
     for u, n in [(b"ACN", 4), (b"ACN", 3), (b"ACN", 2), (b"ACN", 0), (b"A", 1), (b"ACGT", 4), (CODE, 15), (b"RWBASYNKMDCHGVT", 15)]:
         yield turn(u, n)
 
+def score_calls():
+    # document 02, item 7
+    primer, longer, foreign = b"A" * 60, b"A" * 61, b"A" * 59 + b"U"
+    def score(x, u, v, m, reference):
+        number, (value, difference) = answer_score(x, u, v, m, reference)
+        return "score\n" + words("answer", [number, value, difference % 2 ** 64])  # a negative one in two's complement
+    x = b"GTTACACACTGG"
+    for m, reference in [(b"AC", 3), (b"AC", 2), (b"AC", 4), (b"AC", 0), (b"AC", 255), (b"CA", 255), (b"", 0), (b"ACAC", 0), (b"ACACAC", 3), (b"A", 0), (b"T", 0), (b"G", 0),
+                         (b"ac", 0), (b"AN", 0), (b"N", 0), (b"ACACACT", 0), (x, 0), (x + b"G", 0)]:
+        yield score(x, b"GTT", b"TGG", m, reference)
+    for u, v, m in [(b"GT", b"GG", b"AC"), (b"GTTA", b"TGG", b"AC"), (b"GTT", b"CTGG", b"AC"), (b"GTTA", b"CTGG", b"AC"), (b"GTTA", b"CTGG", b"CA"), (b"GTTAC", b"CTGG", b"CA"),
+                    (b"GTTA", b"ACTGG", b"CA")]:
+        yield score(x, u, v, m, 3)
+    shorter, chain, twice, thrice = b"GGACACACTT", b"GGACACACACTT", b"GTTACACGACACTGG", b"GTTACACGACACGACACTGG"
+    for read, v, m in [(shorter, b"CT", b"CA"), (shorter, b"CT", b"AC"), (chain, b"TT", b"AC"), (chain, b"TT", b"CA")]:
+        yield score(read, b"GA", v, m, 3)
+    for marked in [(b"GTTACACACACTGG", b"GTT", b"TGG", b"AC"), (b"GTTAAAATGG", b"GTT", b"TGG", b"A"),
+                   (twice, b"GTT", b"TGG", b"AC"), (twice, b"GTTA", b"TGG", b"AC"), (twice, b"GTT", b"CTGG", b"AC"), (twice, b"GTTA", b"CTGG", b"AC"), (twice, b"GTT", b"TGG", b"CA"),
+                   (thrice, b"GTT", b"TGG", b"AC"), (thrice, b"GTT", b"TGG", b"ACACG"), (b"ACACGACACTACAC", b"G", b"T", b"AC")]:
+        yield score(*marked, 3)
+    for read, u, m in [(b"GTTACACACNCTGG", b"GTT", b"AC"), (b"GTTACACNACACTGG", b"GTT", b"AC"), (b"GTTACNACACTGG", b"GTT", b"AC"), (b"GTTANANANTGG", b"GTT", b"AN"),
+                       (b"GTTAnAnAnTGG", b"GTT", b"An"), (b"GTTARARARTGG", b"GTT", b"AR"), (b"GTNACACACTGG", b"GTT", b"AC"), (b"GTNACACACTGG", b"GTN", b"AC")]:
+        yield score(read, u, b"TGG", m, 3)
+    for u, v in [(b"KTT", b"TSS"), (b"GNT", b"YRG"), (b"N", b"TGG"), (b"GTT", b"VC"),
+                 (b"", b""), (b"", longer), (longer, b""), (b"U", b""), (b"U", longer), (longer, b"U"), (b"GTU", b"U"), (b"U", b"TGu"), (foreign, b"U"), (b"GTT", foreign), (b"AAA", b"TGu"),
+                 (primer, b"TGG"), (b"GTT", primer),
+                 (b"AAA", b"AAA"), (b"AAA", b"AC"), (b"AAA", b"TGG"), (b"AC", b"AAA"), (b"GTT", b"AAA"), (b"AC", b"CA"), (b"AC", b"TGG"), (b"AC", b"GTT"), (b"GTT", b"AC"), (b"TGG", b"AC")]:
+        yield score(x, u, v, b"AC", 3)
+    for marked in [(b"GAAAT", b"AA", b"T", b"A", 0), (b"", b"A", b"T", b"A", 0), (b"", b"", b"T", b"", 0)]:
+        yield score(*marked)
+    for u, v in [(b"GTT", b"GTT"), (b"TGG", b"GTT"), (b"GTTACACACT", b"TT"), (b"TT", b"GTTA"), (b"GT", b"GTT"), (x, b"TGG"), (b"GTTACA", b"ACACT"), (b"GTTAC", b"ACACT"), (b"GTTACACAC", b"TGG")]:
+        yield score(x, u, v, b"AC", 3)
+    within, most, longest, over = b"A" * 1000, b"G" + b"A" * 998 + b"T", b"G" + (b"A" * 498 + b"C") * 2 + b"T", b"A" * 1001
+    yield score(within, b"A", b"C", b"A", 0) + score(within, b"A", b"A", b"A", 0)
+    yield score(most, b"G", b"T", b"A", 255) + "".join(showing(most, b"C\nA", k, b"G", b"T", b"A") for k in (1, 0))
+    yield score(longest, b"G", b"T", longest[1:500], 0) + score(longest, b"G", b"T", longest[1:499], 0)
+    yield score(over, b"C", b"A", b"A", 0) + score(over, b"U", b"", b"", 255) + showing(over, b"A", 0, b"C", b"A", b"A")
+
+def showing(x, house, k, u, v, m):
+    of_house, start, count = shown_part(x, house, k, u, v, m)
+    return "shown\n" + words("part", [of_house, start, count]) + words("slice", list((house if of_house else x)[start:start + count]))
+
+def shown_calls():
+    x, top32 = b"GTTACACACTGG", 2 ** 32 - 1
+    def house(text, k):
+        return showing(x, text, k, b"GTT", b"TGG", b"AC")
+    for listed in [(b"AC", 0), (b"AC\n", 0), (b"AC\nCA\nG", 0), (b"CA\nAC", 1), (b"CA\nAC\n", 1), (b"CAC\nAC\nG", 1), (b"\n\nAC", 2), (b"\nAC\n\n", 1), (b"AC\nAC", 0), (b"AC\nAC", 1),
+                   (b"CA\nAC", 0), (b"AC\nCA", 1), (b"CA\nAC", 2), (b"CA\nAC\n", 2), (b"CA\nAC\n", 3), (b"AC", 1), (b"AC", top32), (b"\n\nAC", 0), (b"\n\nAC", 1),
+                   (b"", 0), (b"", 1), (b"", top32),
+                   (b"ACA\nAC", 0), (b"ACAC", 0), (b"A\nC", 0), (b"A\nC", 1), (b"CA", 0), (b"ac", 0), (b"GAC", 0), (b"GACT\nAC", 0), (b"AC ", 0), (b"AC\r\nCA", 0), (b"CA\n\rAC", 1)]:
+        yield house(*listed)
+    for read, text, k, m in [(b"GTTA\nA\nA\nTGG", b"A\nA\n", 0, b"A\n"), (b"GTT\n\n\nTGG", b"\n\n", 0, b"\n"), (b"GTT\n\n\nTGG", b"\n\n", 1, b"\n"),
+                             (x, b"AC\nCA", 1, b"CA"), (x, b"AC\nCA", 0, b"CA")]:
+        yield showing(read, text, k, b"GTT", b"TGG", m)
+    for read, text, u, v, m in [(x, b"AC", b"", b"TGG", b"AC"), (x, b"AC", b"GTT", b"TGu", b"AC"), (x, b"AC", b"AAA", b"TGG", b"AC"), (x, b"AC", b"GTT", b"AC", b"AC"), (x, b"AC", b"TGG", b"GTT", b"AC"),
+                                (x, b"ACAC", b"GTT", b"TGG", b"ACAC"), (x, b"", b"GTT", b"TGG", b""), (b"GTTACACGACACTGG", b"AC", b"GTT", b"TGG", b"AC"), (b"", b"A", b"A", b"A", b"A")]:
+        yield showing(read, text, 0, u, v, m)
+    for k in (1998, 1997, 1999):
+        yield house(b"\n" * 1998 + b"AC", k)
+
 def run_calls():
-    return "".join([*short_calls(), *long_calls(), *byte_calls(), *index_calls(), *unread_calls(), *runs_calls(), *claim_calls(), *primer_calls()]).encode()
+    calls = [short_calls, long_calls, byte_calls, index_calls, unread_calls, runs_calls, claim_calls, primer_calls, score_calls, shown_calls]
+    return "".join(text for some in calls for text in some()).encode()
 
 def row(word, numbers):
     return "  %s %s\n" % (word, " ".join(map(str, numbers)))

@@ -1,6 +1,7 @@
-# The reads that the stored results are made from: known, Fibonacci words, seeded ones, reads with unread bases and with partial copies; and the primers looked for in them.
+# The reads that the stored results are made from: known, Fibonacci words, seeded ones, reads with unread bases and with partial copies; the primers looked for in them, and the
+# markers that they are scored by.
 
-from rules import BASES, reverse_complement
+from rules import BASES, leading, places, reverse_complement
 
 ROUNDS = 33  # reads of each seeded kind
 DNA = b"ACGT"
@@ -114,18 +115,61 @@ def unread():
 def partial():
     return [b"1011010110110", b"AACAACCACC", b"AACAACACAC", b"ACACA", b"ACGACGA", b"GACACACT", b"ACGTACGTACG", b"ACACGACAC", b"CACA\0\0", b"A\0A\0A\0"]
 
+def lettered(x):
+    # the read with N for each byte that is no letter of the code
+    return bytes(b if b in BASES else ord("N") for b in x)
+
+def widened(dice, u):
+    # letters that let in more
+    return bytes(dice.word([c for c in BASES if BASES[b] <= BASES[c]], 1)[0] for b in u)
+
 # document 02, item 6: primers to look for in a read: a stretch of it, the same with letters that let in more, on the other strand, the end of the read, and two short ones
 def primers(dice, x):
-    letters = bytes(BASES)
-    own = bytes(b if b in BASES else ord("N") for b in x)
-    found = [dice.word(letters, dice.between(1, 3)), dice.word(DNA, dice.between(1, 2))]
+    own, found = lettered(x), [dice.word(bytes(BASES), dice.between(1, 3)), dice.word(DNA, dice.between(1, 2))]
     if x:
         m = dice.between(1, min(60, len(x)))
         i = dice.below(len(x) - m + 1)
         u = own[i:i + m]
-        wider = bytes(dice.word([c for c in letters if BASES[b] <= BASES[c]], 1)[0] for b in u)
-        found += [u, wider, reverse_complement(u), own[-m:]]
+        found += [u, widened(dice, u), reverse_complement(u), own[-m:]]
     return found
+
+# document 02, item 7: a house list for all reads, and markers to score a read by
+HOUSE = [b"A", b"C", b"G", b"T", b"AC", b"CA", b"AG", b"GA", b"AT", b"TA", b"CG", b"GC", b"CT", b"TC", b"GT", b"TG", b"ACG", b"CGA", b"GAC", b"AAC", b"ACC", b"ACGT", b"ACGTT"]
+LENGTHS = (1, 2, 3, 5, 8, 13, 21, 34, 60)
+
+def sole(x, primers):
+    # the first that sits once in the read, else the last
+    return next((u for u in primers if len(places(x, u)) == 1), primers[-1])
+
+def before(x, own, k):
+    # letters of the read up to before its byte k, from 0
+    return sole(x, [own[max(0, k - m):max(0, k)] for m in LENGTHS])
+
+def behind(x, own, k):
+    return sole(x, [own[k:k + m] for m in LENGTHS])
+
+def numbered(dice, m):
+    # for two motifs of three that the house list has the number of its line, else any, also past the last line
+    return HOUSE.index(m) if m in HOUSE and dice.below(3) else dice.below(len(HOUSE) + 2)
+
+def markers(dice, x):
+    # both primers, start and period of the motif, reference count and number: around a leading repeat, with up to three bases free, one byte inside it on the left and on the right, with
+    # the motif of the next start, with wider letters, primers exchanged, and from the ends of the read
+    n, own = len(x), lettered(x)
+    lines = leading(x) or [(1, 1, 1)]
+    lines = [(i, p, e) for i, p, e in lines if 1 < i and i + p * e <= n] or lines
+    for kind in range(8 if x else 0):
+        i, p, e = lines[dice.below(len(lines))]
+        a, b = i - 1, i - 1 + p * e
+        if kind == 1: a, b = a - dice.below(4), b + dice.below(4)
+        if kind == 2: a += 1
+        if kind == 3: b -= 1
+        if kind == 4 and i + p <= n: i += 1
+        u, v = (before(x, own, a), behind(x, own, b)) if kind < 7 else (behind(x, own, 0), before(x, own, n))
+        u, v = u or dice.word(DNA, 1), v or dice.word(DNA, 1)
+        if kind == 5: u, v = widened(dice, own[max(0, a - 20):a] or u), widened(dice, own[b:b + 20] or v)
+        if kind == 6: u, v = v, u
+        yield u, v, i, p, dice.below(12), numbered(dice, x[i - 1:i - 1 + p])
 
 def every():
     return known() + fibonacci() + seeded() + unread() + partial()

@@ -176,6 +176,19 @@ def places(x, u):
 def reverse_complement(u):
     return u[::-1].translate(OTHER_STRAND)
 
+@lru_cache(maxsize=1)  # all markers of a read ask for the same lines; no caller changes them
+def leading(x):
+    return repeats(x, 1)
+
+def between(x, m, low, high):
+    # document 02, item 7: the leading lines of the whole list whose bytes are the motif m over and over, and which lie from low on and before high
+    return [(i, p, e) for i, p, e in leading(x) if x[i - 1:i - 1 + p * e] == m * e and low <= i and i + p * e <= high]
+
+def house_place(house, k, m):
+    # where the line of number k starts, from 0, if it is the motif
+    lines = house.split(b"\n")
+    return sum(len(line) + 1 for line in lines[:k]) if lines[k:k + 1] == [m] else None
+
 def front(numbers, buffer):
     return numbers + buffer[len(numbers):]
 
@@ -256,6 +269,32 @@ def answer_turn(u, buffer):
     if bad: return (*bad, buffer)
     if len(buffer) < len(u): return 4, len(u), buffer
     return 0, len(u), front(list(reverse_complement(u)), buffer)
+
+def scored_line(x, u, v, m):
+    # 0 and the leading repeat that is scored, or a refusal
+    if len(x) > LIMIT: return 1, len(x)
+    # of what is wrong with the primers the least number comes first, and of the same for both the left one
+    bad = [found for found in map(bad_primer, (u, v)) if found]
+    if bad: return min(bad, key=lambda found: found[0])
+    seats = [places(x, u), places(x, v)]
+    bad = [(11 if some else 10, side) for side, some in enumerate(seats, 1) if len(some) != 1]
+    if bad: return min(bad)
+    low, high = seats[0][0] + len(u), seats[1][0]
+    if high < low: return 12, 0
+    lines = between(x, m, low, high)
+    if len(lines) != 1: return (14 if lines else 13), 0
+    return 0, lines[0]
+
+def answer_score(x, u, v, m, reference):
+    number, found = scored_line(x, u, v, m)
+    return (number, (found, 0)) if number else (0, (found[2], found[2] - reference))
+
+def shown_part(x, house, k, u, v, m):
+    # 1 for a part of the house list or 0 for one of the read, its place from 0, and how many bytes
+    number, found = scored_line(x, u, v, m)
+    if number: return 0, 0, 0
+    place = house_place(house, k, m)
+    return (0, found[0] - 1, len(m)) if place is None else (1, place, len(m))
 
 def printed(x, mode):
     number, value, buffer = answer_list(x, mode, [0] * (3 * LINES))

@@ -1,5 +1,6 @@
 -- Two results x and y at the arguments a, both allowed by the contract of the function as the source states it, are equal. Assumes nothing.
 use mathlib.Core.Path.{_≡_, sym, _∙_}
+use Rattle.call_answers.proofs.refusal.Reads as refusal
 use Rattle.call_answers.proofs.listed.Reads as listed
 use Rattle.call_answers.proofs.runs_listed.Reads as runs-listed
 use Rattle.call_answers.proofs.tabled.Reads as tabled
@@ -12,6 +13,9 @@ use Rattle.call_answers.proofs.taken.Reads as taken
 use Rattle.call_answers.proofs.indexed.Reads as indexed
 use Rattle.call_answers.proofs.list_indexed.Reads as list-indexed
 use Rattle.call_answers.proofs.looked.Reads as looked
+
+pub refusal-settled : (κs : _) (a : _) (x y : _) (e f : _) → refusal.Learnt κs a x e → refusal.Learnt κs a y f → x ≡ y
+refusal-settled κs a x y e f p q = p ∙ sym q
 
 pub listed-settled : (κs : _) (a : _) (x y : _) (e f : _) → listed.Learnt κs a x e → listed.Learnt κs a y f → x ≡ y
 listed-settled κs a x y e f p q = p ∙ sym q

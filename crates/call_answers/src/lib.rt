@@ -1,4 +1,4 @@
-// The answers of the public calls in the documents' numbers: the one place in code where a case becomes a number and its values.
+// The answers of the library's calls in the documents' numbers: the one place in code where a case becomes a number and its values (`marker_answers` has those of the marker calls).
 // What each case says stands in the definitions of words, specs/Answers.antt, and of words_index, words_runs, words_claims and words_primers, specs/Calls.antt; `plain` puts it side by side.
 ghost use mathlib.Core.Path.{_≡_};
 ghost use Rattle.words.specs.Answers.{listedSays, tabledSays, loggedSays, replayedSays};
@@ -28,7 +28,7 @@ use words_runs::RunsListed;
 pub struct Answer {
     pub number: u32,
     pub value: u64,
-    // the second value; a signed one will stand here in two's complement
+    // the second value; a signed one stands here in two's complement
     pub more: u64,
 }
 
@@ -75,7 +75,7 @@ fn both(value: usize, more: usize) -> Answer
 }
 
 // a refusal that returns one value
-fn refusal(number: u32, value: usize) -> Answer
+pub fn refusal(number: u32, value: usize) -> Answer
     ensures { λ r. ⌜ r ≡ plain (saysRefusal number value) ⌝ }
 {
     Answer {

@@ -3,32 +3,16 @@ ghost use mathlib.Core.Path.{_≡_};
 ghost use mathlib.Core.List.{_++_};
 ghost use Prim.Native.Nat.{_≤_};
 ghost use lib.ListN.{length, drop};
-ghost use Rattle.words_primers.specs.Primers.{firstForeign, reverseComplement};
+ghost use Rattle.words_primers.specs.Primers.{reverseComplement};
 ghost use Rattle.words_primers.specs.Calls.{placedSays, findAnswer, findLeaves, turnedSays, turnAnswer, turnLeaves};
-use base_sets::set_of;
 use base_sets::turn;
+use primer_judges::first_foreign;
+use primer_judges::good_length;
 use primer_scans::scan;
 use read_edges::MOST;
 use row_cells::clear;
 use words_primers::Placed;
 use words_primers::Turned;
-
-// the most letters that a primer may have
-const LONGEST: usize = 60;
-
-// the first letter, from 0, that is none of the code; the length if all are
-fn first_foreign(primer: &[u8]) -> usize
-    ensures { λ r. ⌜ r ≡ firstForeign (now (primer .entry)) ⌝ }
-{
-    let mut k: usize = 0;
-    while k < primer.len() {
-        if set_of(primer[k]) == 0 {
-            return k;
-        }
-        k += 1;
-    }
-    k
-}
 
 // All positions at which a primer of 1 to 60 letters sits in a read, ascending, to the front of `out`.
 pub fn find_primer(read: &[u8], primer: &[u8], out: &mut [u16]) -> Placed
@@ -40,7 +24,7 @@ pub fn find_primer(read: &[u8], primer: &[u8], out: &mut [u16]) -> Placed
         return Placed::TooLong(long);
     }
     let letters = primer.len();
-    if letters < 1 || LONGEST < letters {
+    if !good_length(letters) {
         return Placed::BadLength(letters);
     }
     let foreign = first_foreign(primer);
@@ -73,7 +57,7 @@ pub fn reverse_complement(primer: &[u8], out: &mut [u8]) -> Turned
         × (now (out .exit) ≡ turnLeaves (now (primer .entry)) (now (out .entry))) ⌝ }
 {
     let letters = primer.len();
-    if letters < 1 || LONGEST < letters {
+    if !good_length(letters) {
         return Turned::BadLength(letters);
     }
     let foreign = first_foreign(primer);

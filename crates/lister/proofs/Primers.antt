@@ -9,37 +9,18 @@ use lib.ListN.{length, getD, take}
 use lib.Seq.{take-append-seam}
 use denote.Ref.{now}
 use Rattle.words.specs.Answers.{Answer, success, refusal}
-use Rattle.words.proofs.Passing.{In}
+use Rattle.words.proofs.Passing.{In, Rising}
 use Rattle.words.proofs.Afterwards.{front}
 use Rattle.words_primers.specs.Bases.{setOf}
 use Rattle.words_primers.specs.Primers.{firstForeign, places, reverseComplement}
 use Rattle.words_primers.specs.Calls.{placedSays, turnedSays}
-use Rattle.words_primers.proofs.Turning.{Primer, none-foreign, all-own, foreign-at, foreign-first, reverse-complement-twice, reverse-complement-primer, reverse-length}
-use Rattle.words_primers.proofs.Places.{Under, sits-means, places-exactly, places-rise}
+use Rattle.words_primers.proofs.Turning.{Primer, none-foreign, all-own, FirstForeign, first-foreign, reverse-complement-twice, reverse-complement-primer, reverse-length}
+use Rattle.words_primers.proofs.Places.{Sits, places-exactly, places-sit}
 use Rattle.words_primers.proofs.Mirror.{Mirrored, sits-mirrored}
 use Rattle.call_primers.proofs.find_primer.Reads as find-call
 use Rattle.call_primers.proofs.reverse_complement.Reads as turn-call
 use Rattle.lister.proofs.Refusals.{GoodPrimer}
 use Rattle.lister.proofs.Demands.{every-call-is-answered}
-
--- the primer ends inside the read, and each read letter there is one of the code, and each of its bases one of the primer letter's
-abbrev pub Sits : List ℕ → List ℕ → ℕ → Type 0
-Sits x u i = (1 ≤ i) × (i + length u ≤ suc (length x)) × ((k : ℕ) → k < length u → Under x (i + k) (getD u k 0))
-
--- a list of exactly the places, ascending
-pub record AllPlaces (x u made : List ℕ) : Type 0 where
-  pub exactly : (i : ℕ) → In made i ↔ Sits x u i
-  pub ascending : (h k : ℕ) → h < k → k < length made → getD made h 0 < getD made k 0
-
-all-places : (x u : List ℕ) → 1 ≤ length u → AllPlaces x u (places x u)
-all-places x u some =
-    record {
-      exactly = λ i. (
-        λ w. let p = places-exactly x u i .0 w in let s = sits-means x u i .0 (p .2) in (p .0, s .0, s .1),
-        λ s. places-exactly x u i .1 (s .0, omega (arith, s .1, some), sits-means x u i .1 (s .1, s .2)),
-      );
-      ascending = places-rise x u;
-    }
 
 -- a primer that is not refused is one
 good-primer : (u : List ℕ) → GoodPrimer u → Primer u
@@ -47,21 +28,17 @@ good-primer u g = record { some = g .0; few = g .1; own = none-foreign u (g .2) 
 
 -- where the call succeeds, the front of the slice is exactly the places, ascending, the rest is as it was, and the answer is their number
 pub places-are-where-it-sits : (κs : _) (a : _) (r : _) (e : _) → find-call.Learnt κs a r e → placedSays r .number ≡ 0
-    → (made : List ℕ) × (now (e .1 .1 .0) ≡ front made (now (a .1 .1 .0))) × (placedSays r ≡ success (length made)) × AllPlaces (now (a .0)) (now (a .1 .0)) made
+    → (made : List ℕ) × (now (e .1 .1 .0) ≡ front made (now (a .1 .1 .0))) × (placedSays r ≡ success (length made)) × Rising (Sits (now (a .0)) (now (a .1 .0))) made
 unfolding success refusal
 places-are-where-it-sits κs a r e h ok =
     let B = every-call-is-answered .find κs a .1 r e h in
     let w = B .exactly 0 .0 ok in
     let g = B .gives 0 w in
-    (places (now (a .0)) (now (a .1 .0)), g .1, g .0, all-places (now (a .0)) (now (a .1 .0)) (w .1 .0))
+    (places (now (a .0)) (now (a .1 .0)), g .1, g .0, places-sit (now (a .0)) (now (a .1 .0)) (w .1 .0))
 
--- letter k is no letter of the code, and the first such
-abbrev pub FirstForeign : List ℕ → ℕ → Type 0
-FirstForeign u k = (k < length u) × (setOf (getD u k 0) ≡ 0) × ((j : ℕ) → j < k → setOf (getD u j 0) ≢ 0)
-
-first-foreign : (u : List ℕ) (k : ℕ) (t : Answer) → t ≡ refusal 9 k → firstForeign u < length u → t ≡ refusal 9 (firstForeign u) → FirstForeign u k
+index-foreign : (u : List ℕ) (k : ℕ) (t : Answer) → t ≡ refusal 9 k → firstForeign u < length u → t ≡ refusal 9 (firstForeign u) → FirstForeign u k
 unfolding refusal
-first-foreign u k t q h g = rw (ap (λ (v : Answer). getD (v .values) 0 0) (sym q ∙ g)) (h, foreign-at u h, foreign-first u)
+index-foreign u k t q h g = rw (ap (λ (v : Answer). getD (v .values) 0 0) (sym q ∙ g)) (first-foreign u h)
 
 -- the index that comes with refusal 9 is that of the first foreign letter, of either call
 pub the-index-found-is-of-the-first-foreign-letter : (κs : _) (a : _) (r : _) (e : _) → find-call.Learnt κs a r e → (k : ℕ) → placedSays r ≡ refusal 9 k → FirstForeign (now (a .1 .0)) k
@@ -69,14 +46,14 @@ unfolding refusal
 the-index-found-is-of-the-first-foreign-letter κs a r e h k q =
     let B = every-call-is-answered .find κs a .1 r e h in
     let w = B .exactly 9 .0 (ap (λ (t : Answer). t .number) q) in
-    first-foreign (now (a .1 .0)) k (placedSays r) q (w .1 .2) (B .gives 9 w .0)
+    index-foreign (now (a .1 .0)) k (placedSays r) q (w .1 .2) (B .gives 9 w .0)
 
 pub the-index-turned-is-of-the-first-foreign-letter : (κs : _) (a : _) (r : _) (e : _) → turn-call.Learnt κs a r e → (k : ℕ) → turnedSays r ≡ refusal 9 k → FirstForeign (now (a .0)) k
 unfolding refusal
 the-index-turned-is-of-the-first-foreign-letter κs a r e h k q =
     let B = every-call-is-answered .turn κs a .1 r e h in
     let w = B .exactly 9 .0 (ap (λ (t : Answer). t .number) q) in
-    first-foreign (now (a .0)) k (turnedSays r) q (w .2) (B .gives 9 w .0)
+    index-foreign (now (a .0)) k (turnedSays r) q (w .2) (B .gives 9 w .0)
 
 -- where the call succeeds, what it was given and what it wrote to the front are primers, as long as each other, and each is the other's reverse complement
 pub the-reverse-complement-is-a-primer : (κs : _) (a : _) (r : _) (e : _) → turn-call.Learnt κs a r e → turnedSays r .number ≡ 0

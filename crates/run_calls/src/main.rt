@@ -262,4 +262,5 @@ fn main() {
     run_runs::run();
     run_claims::run();
     run_primers::run();
+    run_markers::run();
 }

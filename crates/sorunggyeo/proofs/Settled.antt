@@ -11,6 +11,8 @@ use Rattle.sorunggyeo.proofs.sorunggyeo_claim.Reads as sorunggyeo-claim
 use Rattle.sorunggyeo.proofs.sorunggyeo_motif.Reads as sorunggyeo-motif
 use Rattle.sorunggyeo.proofs.sorunggyeo_find_primer.Reads as sorunggyeo-find-primer
 use Rattle.sorunggyeo.proofs.sorunggyeo_reverse_complement.Reads as sorunggyeo-reverse-complement
+use Rattle.sorunggyeo.proofs.sorunggyeo_score.Reads as sorunggyeo-score
+use Rattle.sorunggyeo.proofs.sorunggyeo_shown.Reads as sorunggyeo-shown
 use Rattle.sorunggyeo.proofs.sorunggyeo_next.Reads as sorunggyeo-next
 use Rattle.sorunggyeo.proofs.sorunggyeo_list_index.Reads as sorunggyeo-list-index
 use Rattle.sorunggyeo.proofs.sorunggyeo_index.Reads as sorunggyeo-index
@@ -42,6 +44,12 @@ sorunggyeo-find-primer-settled κs a x y e f p q = (p .0 ∙ sym (q .0), p .1 �
 
 pub sorunggyeo-reverse-complement-settled : (κs : _) (a : _) (x y : _) (e f : _) → sorunggyeo-reverse-complement.Learnt κs a x e → sorunggyeo-reverse-complement.Learnt κs a y f → (x ≡ y) × (now (e .1 .0) ≡ now (f .1 .0))
 sorunggyeo-reverse-complement-settled κs a x y e f p q = (p .0 ∙ sym (q .0), p .1 ∙ sym (q .1))
+
+pub sorunggyeo-score-settled : (κs : _) (a : _) (x y : _) (e f : _) → sorunggyeo-score.Learnt κs a x e → sorunggyeo-score.Learnt κs a y f → x ≡ y
+sorunggyeo-score-settled κs a x y e f p q = p ∙ sym q
+
+pub sorunggyeo-shown-settled : (κs : _) (a : _) (x y : _) (e f : _) → sorunggyeo-shown.Learnt κs a x e → sorunggyeo-shown.Learnt κs a y f → x ≡ y
+sorunggyeo-shown-settled κs a x y e f p q = p ∙ sym q
 
 pub sorunggyeo-next-settled : (κs : _) (a : _) (x y : _) (e f : _) → sorunggyeo-next.Learnt κs a x e → sorunggyeo-next.Learnt κs a y f → x ≡ y
 sorunggyeo-next-settled κs a x y e f p q = p ∙ sym q

@@ -11,10 +11,14 @@ ghost use Rattle.words_claims.specs.Calls.{claimAnswer};
 ghost use Rattle.words_primers.specs.Calls.{findAnswer, findLeaves, turnAnswer, turnLeaves};
 ghost use Rattle.call_answers.specs.Plain.{plain, plainMove, plainLooked};
 ghost use Rattle.call_claims.specs.Parts.{motifPart};
+ghost use Rattle.words_markers.specs.Calls.{scoreAnswer, shown};
+ghost use Rattle.marker_answers.specs.Scores.{plainScore};
+ghost use Rattle.marker_calls.specs.Parts.{shownPart};
 use call_answers::Answer;
 use call_answers::Found;
 use call_answers::Move;
 use call_claims::Part;
+use marker_calls::ShownPart;
 
 #[no_mangle]
 pub extern "C" fn sorunggyeo_list(read: &[u8], mode: u32, list: &mut [u16]) -> Answer
@@ -94,6 +98,35 @@ pub extern "C" fn sorunggyeo_reverse_complement(primer: &[u8], letters: &mut [u8
         × (now (letters .exit) ≡ turnLeaves (now (primer .entry)) (now (letters .entry))) ⌝ }
 {
     call_answers::turned(call_primers::reverse_complement(primer, letters))
+}
+
+// The score of a read by a marker: its copies, and how many more than the reference they are.
+#[no_mangle]
+pub extern "C" fn sorunggyeo_score(
+    read: &[u8],
+    left: &[u8],
+    right: &[u8],
+    motif: &[u8],
+    reference: u8,
+) -> Answer
+    ensures { λ r. ⌜ r ≡ plainScore (scoreAnswer (now (read .entry)) (now (left .entry)) (now (right .entry)) (now (motif .entry)) reference) ⌝ }
+{
+    marker_answers::scored(marker_calls::score(read, left, right, motif, reference))
+}
+
+// The motif shown, named by its slice and its place.
+#[no_mangle]
+pub extern "C" fn sorunggyeo_shown(
+    read: &[u8],
+    house: &[u8],
+    number: u32,
+    left: &[u8],
+    right: &[u8],
+    motif: &[u8],
+) -> ShownPart
+    ensures { λ r. ⌜ r ≡ shownPart (now (motif .entry)) (shown (now (read .entry)) (now (house .entry)) number (now (left .entry)) (now (right .entry)) (now (motif .entry))) ⌝ }
+{
+    marker_calls::shown_part(read, house, number, left, right, motif)
 }
 
 // One call of the log reader, on the log and the place reached.

@@ -1,21 +1,26 @@
--- The numbers of a range that pass a test: exactly those, rising, and one number of the range more. Assumes nothing.
-use Prim.Native.Nat.{ℕ, zero, suc, _+_, _≤_, _<_}
-use mathlib.Core.Path.{_≡_, refl, subst, _∙_}
-use mathlib.Core.Logic.{_⊎_, inl, inr}
+-- The numbers of a range that pass a test: exactly those, rising; by the first of them; and one number of the range more. Assumes nothing.
+use Prim.Native.Nat.{ℕ, zero, suc, _+_, _-_, _≤_, _<_}
+use mathlib.Core.Path.{_≡_, refl, sym, ap, subst, _∙_}
+use mathlib.Core.Logic.{_⊎_, inl, inr, _↔_}
 use mathlib.Core.Bool.{Bool, true, false, cond}
 use mathlib.Core.List.{List, [], _∷_, _++_}
 use native.Mathlib.Omega.{arith}
 use native.Mathlib.Nat.{eq-or-lt-of-le}
 use lib.ListN.{length, getD}
-use Rattle.words.specs.Range.{gather, passing}
+use Rattle.words.specs.Range.{first, gather, passing}
 use Rattle.words.proofs.Tests.{clash}
-use Rattle.words.proofs.Ranges.{append-nil, gather-next, gather-stop}
+use Rattle.words.proofs.Ranges.{first-now, first-later, found, append-nil, gather-none, gather-parts, gather-next, gather-stop}
 
 -- v stands in a list of numbers
 abbrev pub In : List ℕ → ℕ → Type 0
 In l v = (k : ℕ) × (k < length l) × (getD l k 0 ≡ v)
 
--- a list has exactly the numbers of the range that pass, and they rise
+-- a list has exactly the numbers of a kind, and they rise
+pub record Rising (P : ℕ → Type 0) (l : List ℕ) : Type 0 where
+  pub exactly : (i : ℕ) → In l i ↔ P i
+  pub rises : (h k : ℕ) → h < k → k < length l → getD l h 0 < getD l k 0
+
+-- so for the numbers of a range that pass
 pub record Passes (p : ℕ → Bool) (d j : ℕ) (l : List ℕ) : Type 0 where
   pub only : (k : ℕ) → k < length l → (j ≤ getD l k 0) × (getD l k 0 < j + d) × (p (getD l k 0) ≡ true)
   pub each : (v : ℕ) → j ≤ v → v < j + d → p v ≡ true → In l v
@@ -86,3 +91,34 @@ module _ (p : ℕ → Bool) where
   pub passing-stop : (d e : ℕ) → d ≤ e → ((k : ℕ) → d < k → k ≤ e → p k ≡ false) → passing p e 1 ≡ passing p d 1
   unfolding passing
   passing-stop d e h none = gather-stop (λ k. cond (p k) (k ∷ []) []) d e 1 h (λ k a b. rw (none k (omega arith) (omega arith)) refl)
+
+  -- the numbers of a range by the first of them: none, or it and those after it
+  pub passing-ended : (d j : ℕ) → first p d j ≡ j + d → passing p d j ≡ []
+  passing-ended zero j e = passing-none j
+  passing-ended (suc d) j e = go (p j) refl (passing-ended d (suc j))
+    where
+      go : (b : Bool) → p j ≡ b → (first p d (suc j) ≡ suc j + d → passing p d (suc j) ≡ []) → passing p (suc d) j ≡ []
+      go true t h = absurd (omega (arith, e, first-now p d j t))
+      go false f h = first-fails d j f ∙ h (omega (arith, e, first-later p d j f))
+
+  pub passing-found : (d j : ℕ) → first p d j < j + d → passing p d j ≡ first p d j ∷ passing p (j + d - suc (first p d j)) (suc (first p d j))
+  passing-found zero j l = absurd (omega (arith, found p zero j .low))
+  passing-found (suc d) j l = go (p j) refl (passing-found d (suc j))
+    where
+      go : (b : Bool) → p j ≡ b → (first p d (suc j) < suc j + d → passing p d (suc j) ≡ first p d (suc j) ∷ passing p (suc j + d - suc (first p d (suc j))) (suc (first p d (suc j))))
+          → passing p (suc d) j ≡ first p (suc d) j ∷ passing p (j + suc d - suc (first p (suc d) j)) (suc (first p (suc d) j))
+      go true t h = let q : j + suc d - suc j ≡ d = omega arith in first-passes d j t ∙ sym (rw (first-now p d j t, q) refl)
+      go false f h =
+          let q : suc j + d ≡ j + suc d = omega arith in
+          first-fails d j f ∙ h (omega (arith, l, first-later p d j f)) ∙ rw (first-later p d j f, q) refl
+
+  -- a range from 1 on, before a number below which none passes
+  pub passing-skip : (j n : ℕ) → 1 ≤ j → j ≤ suc n → ((k : ℕ) → 1 ≤ k → k < j → p k ≡ false) → passing p n 1 ≡ passing p (suc n - j) j
+  unfolding passing
+  passing-skip j n a b none =
+      let q : n ≡ (j - 1) + (suc n - j) = omega arith in
+      let r : 1 + (j - 1) ≡ j = omega arith in
+      let f : ℕ → List ℕ = λ k. cond (p k) (k ∷ []) [] in
+      ap (λ (v : ℕ). gather f v 1) q
+      ∙ gather-parts f (j - 1) (suc n - j) 1
+      ∙ rw (gather-none f (j - 1) 1 (λ k c d. rw (none k c (omega arith)) refl)) (ap (gather f (suc n - j)) r)

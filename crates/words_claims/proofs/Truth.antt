@@ -1,6 +1,6 @@
 -- The claim check tells the truth: what each answer says of the claim, and that it is given if and only if that is so; so one answer is, and none is left over. Assumes nothing.
 use Prim.Native.Nat.{ℕ, suc, _+_, _/_, _≤_, _<_}
-use mathlib.Core.Path.{_≡_, refl, sym, ap, subst, _∙_}
+use mathlib.Core.Path.{_≡_, refl, sym, ap, _∙_}
 use mathlib.Core.Logic.{_⊎_, inl, inr, ⊎-elim, by-cases, _↔_, _≢_}
 use mathlib.Core.Bool.{true, false}
 use mathlib.Core.List.{List}
@@ -11,7 +11,7 @@ use lib.Dec.{leb}
 use borrow.Author.Tests.{le-leb, not-true}
 use Rattle.words.specs.Reads.{most, at, unread, stretch}
 use Rattle.words.specs.Repeats.{stands, primitive, repeats, copies, written}
-use Rattle.words.proofs.Tests.{and-both, clash, fails, lt-or-ge}
+use Rattle.words.proofs.Tests.{and-both, clash, told-exactly, fails, lt-or-ge}
 use Rattle.words.proofs.Repeats.{Repeat, stands-is, is-stands, repeat-is, is-repeat, is-primitive}
 use Rattle.words.proofs.Copies.{copies-stand, copies-end, copies-is, repeat-copies}
 use Rattle.words.proofs.Lines.{copies-repeat}
@@ -110,7 +110,7 @@ module _ (x : List ℕ) (i p e : ℕ) where
 
   -- an answer is given if and only if what it says is so
   pub told-if-so : (v : Claimed) → (verdict x i p e ≡ v) ↔ Says x i p e v
-  told-if-so v = (λ q. subst (λ (a : Claimed). Says x i p e a) (sym (truth-told (one-is-so .0) (one-is-so .1)) ∙ q) (one-is-so .1), truth-told v)
+  told-if-so = told-exactly (verdict x i p e) (Says x i p e) truth-told one-is-so
 
   -- a claim of a motif that holds an N, and lies in the read, is told that it stands once
   pub unread-told : length x ≤ most → Inside x i p e → (k : ℕ) → k < p → at x (i + k) ≡ unread → verdict x i p e ≡ Claimed.Copies 1

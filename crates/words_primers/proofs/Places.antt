@@ -12,7 +12,7 @@ use Rattle.words.specs.Range.{every}
 use Rattle.words.specs.Reads.{at, unread, fits}
 use Rattle.words.proofs.Tests.{and-left, and-right, and-both, fails}
 use Rattle.words.proofs.Ranges.{every-at, every-of}
-use Rattle.words.proofs.Passing.{In, passes, passing-none, passing-stop}
+use Rattle.words.proofs.Passing.{In, Rising, passes, passing-none, passing-stop}
 use Rattle.words_primers.specs.Bases.{setOf, letterFor, matches}
 use Rattle.words_primers.specs.Primers.{letsIn, sits, places}
 use Rattle.words_primers.proofs.Letters.{letter-back, unread-set, set-small}
@@ -60,6 +60,10 @@ unread-under-n-alone c t =
     let e : setOf c ≡ 15 = eqb-true (setOf c) 15 (sym (all-match (setOf c) (set-small c)) ∙ all) in
     sym (letter-back c (λ z. omega (arith, e, z))) ∙ ap letterFor (e ∙ sym unread-set) ∙ letter-back unread (λ z. omega (arith, unread-set, z))
 
+-- the primer ends inside the read, and each read letter there is one of the code, and each of its bases one of the primer letter's
+abbrev pub Sits : List ℕ → List ℕ → ℕ → Type 0
+Sits x u i = (1 ≤ i) × (i + length u ≤ suc (length x)) × ((k : ℕ) → k < length u → Under x (i + k) (getD u k 0))
+
 module _ (x u : List ℕ) where
   -- a number stands in the list exactly if it is a position at which the primer sits
   pub places-exactly : (i : ℕ) → In (places x u) i ↔ ((1 ≤ i) × (i ≤ length x) × (sits x u i ≡ true))
@@ -79,3 +83,13 @@ module _ (x u : List ℕ) where
   pub places-rise : (h k : ℕ) → h < k → k < length (places x u) → getD (places x u) h 0 < getD (places x u) k 0
   unfolding places
   places-rise = passes (sits x u) (length x) 1 .rises
+
+  -- the same in words, of a primer that has a letter
+  pub places-sit : 1 ≤ length u → Rising (Sits x u) (places x u)
+  places-sit some = record {
+    exactly = λ i. (
+      λ w. let p = places-exactly i .0 w in let s = sits-means x u i .0 (p .2) in (p .0, s .0, s .1),
+      λ s. places-exactly i .1 (s .0, omega (arith, s .1, some), sits-means x u i .1 (s .1, s .2)),
+    );
+    rises = places-rise;
+  }

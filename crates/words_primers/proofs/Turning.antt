@@ -54,6 +54,19 @@ module _ (u : List ℕ) where
   pub all-own : ((k : ℕ) → k < length u → setOf (getD u k 0) ≢ 0) → length u ≤ firstForeign u
   all-own own = ⊎-elim (λ l. absurd (own (firstForeign u) l (foreign-at l))) (λ l. l) (lt-or-ge (firstForeign u) (length u))
 
+  -- letter k is no letter of the code, and the first such
+  abbrev pub FirstForeign : ℕ → Type 0
+  FirstForeign k = (k < length u) × (setOf (getD u k 0) ≡ 0) × ((j : ℕ) → j < k → setOf (getD u j 0) ≢ 0)
+
+  pub first-foreign : firstForeign u < length u → FirstForeign (firstForeign u)
+  first-foreign l = (l, foreign-at l, foreign-first)
+
+  pub first-foreign-is : (k : ℕ) → FirstForeign k → firstForeign u ≡ k
+  first-foreign-is k f =
+      let high : firstForeign u ≤ k = ⊎-elim (λ l. absurd (foreign-first k l (f .1))) (λ l. l) (lt-or-ge k (firstForeign u)) in
+      let low : k ≤ firstForeign u = ⊎-elim (λ l. absurd (f .2 (firstForeign u) l (foreign-at (omega (arith, high, f .0))))) (λ l. l) (lt-or-ge (firstForeign u) k) in
+      omega arith
+
   -- ---- its reverse complement
 
   pub reverse-length : length (reverseComplement u) ≡ length u

@@ -1,4 +1,4 @@
--- `call_primers::first_foreign` meets its contract. The loop's invariant: none of the first k letters is foreign; the measure is how many are left. Assumes nothing.
+-- `primer_judges::first_foreign` meets its contract. The loop's invariant: none of the first k letters is foreign; the measure is how many are left. Assumes nothing.
 use Prim.Native.Nat.{_-_, _≤_}
 use mathlib.Core.Path.{refl, sym, _∙_}
 use native.Mathlib.Omega.{arith}
@@ -7,8 +7,8 @@ use borrow.Author.Needs.{needs}
 use borrow.Author.Tests.{eq-eqb, ne-eqb}
 use Rattle.words.proofs.Searches.{Missed, missed-none, missed-more, first-hit, first-ended}
 use Rattle.words_primers.specs.Primers.{foreign, firstForeign}
-use Rattle.call_primers.proofs.first_foreign.Statement.{statement}
-use Rattle.call_primers.proofs.first_foreign.Tie as tie
+use Rattle.primer_judges.proofs.first_foreign.Statement.{statement}
+use Rattle.primer_judges.proofs.first_foreign.Tie as tie
 
 abbrev Inv-loop : tie.InvT-loop
 Inv-loop primer k₀ k = (k ≤ length primer) × Missed (foreign primer) 0 k

@@ -1,0 +1,3 @@
+pub mod Twos
+pub mod Refused
+pub mod Settled

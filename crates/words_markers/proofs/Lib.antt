@@ -1,0 +1,12 @@
+pub mod Houses
+pub mod Lines
+pub mod Counts
+pub mod Seating
+pub mod Seated
+pub mod Fitting
+pub mod Starts
+pub mod Truth
+pub mod Showing
+pub mod Said
+pub mod Scores
+pub mod Known

@@ -1,0 +1,4 @@
+pub mod Fits
+pub mod Houses
+pub mod Sites
+pub mod Calls
