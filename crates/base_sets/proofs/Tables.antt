@@ -3,16 +3,22 @@ use Prim.Native.Nat.{ℕ, _+_, _-_, _*_, _/_, _%_, _≤_, _<_}
 use mathlib.Core.Path.{_≡_, refl, ap, _∙_}
 use mathlib.Core.List.{List, [], _∷_}
 use native.Mathlib.Omega.{arith}
-use lib.ListN.{getD}
+use lib.ListN.{length, getD}
 use lib.Bits.{bitAnd, bitOr}
 use Rattle.bits.specs.Bits.{bit}
-use Rattle.words.specs.Range.{every, sum}
-use Rattle.words.proofs.Ranges.{every-same}
+use Rattle.words.specs.Range.{every, sum, gather, cells}
+use Rattle.words.proofs.Ranges.{every-same, length-cells, getD-cells}
 use Rattle.words_primers.specs.Bases.{setIn, letterIn, setOf, letterFor, complementOf}
+use Rattle.base_sets.specs.Sets.{letterSets}
 
 -- the sets of A to Z, and of no byte before or after them
-abbrev pub sets : List ℕ
-sets = 1 ∷ 14 ∷ 2 ∷ 13 ∷ 0 ∷ 0 ∷ 4 ∷ 11 ∷ 0 ∷ 0 ∷ 12 ∷ 0 ∷ 3 ∷ 15 ∷ 0 ∷ 0 ∷ 0 ∷ 5 ∷ 6 ∷ 8 ∷ 0 ∷ 7 ∷ 9 ∷ 0 ∷ 10 ∷ 0 ∷ []
+pub sets-laid-out : 1 ∷ 14 ∷ 2 ∷ 13 ∷ 0 ∷ 0 ∷ 4 ∷ 11 ∷ 0 ∷ 0 ∷ 12 ∷ 0 ∷ 3 ∷ 15 ∷ 0 ∷ 0 ∷ 0 ∷ 5 ∷ 6 ∷ 8 ∷ 0 ∷ 7 ∷ 9 ∷ 0 ∷ 10 ∷ 0 ∷ [] ≡ letterSets
+unfolding letterSets cells gather setOf setIn
+sets-laid-out = refl
+
+pub sets-length : length letterSets ≡ 26
+unfolding letterSets
+sets-length = length-cells (λ k. setOf (65 + k)) 26 0
 
 module _ (b : ℕ) where
   pub set-before : b < 65 → 0 ≡ setOf b
@@ -23,11 +29,9 @@ module _ (b : ℕ) where
   unfolding every setOf setIn
   set-behind h l = every-same (λ k. 0) setOf 165 91 refl b h l
 
-  pub set-between : 65 ≤ b → b ≤ 90 → getD sets (b - 65) 0 ≡ setOf b
-  unfolding every setOf setIn
-  set-between l h =
-      let back : 65 + (b - 65) ≡ b = omega arith in
-      every-same (λ k. getD sets k 0) (λ k. setOf (65 + k)) 26 0 refl (b - 65) (omega arith) (omega arith) ∙ ap setOf back
+  pub set-between : (t : List ℕ) → t ≡ letterSets → 65 ≤ b → b ≤ 90 → getD t (b - 65) 0 ≡ setOf b
+  unfolding letterSets
+  set-between t e l h = let back : 65 + (0 + (b - 65)) ≡ b = omega arith in ap (λ (v : List ℕ). getD v (b - 65) 0) e ∙ getD-cells (λ k. setOf (65 + k)) 26 0 (b - 65) (omega arith) ∙ ap setOf back
 
 -- the letters of the sixteen sets
 abbrev pub letters : List ℕ

@@ -4,6 +4,7 @@ ghost use mathlib.Core.Path.{_≡_};
 ghost use Prim.Native.Nat.{_<_};
 ghost use Rattle.words_primers.specs.Bases.{setOf, letterFor, matches as matchesIn, complementOf};
 ghost use Rattle.words_primers.specs.Primers.{turned};
+ghost use Rattle.base_sets.specs.Sets.{letterSets};
 
 // the sets of A to Z; U and the nine others that are no letter of the code have none
 const SETS: [u8; 26] = [
@@ -55,8 +56,16 @@ const LETTERS: [u8; 16] = [
     78,
 ];
 
-// the set of a byte
-pub fn set_of(byte: u8) -> u8
+// the sets of A to Z as a table, for one who looks up many bytes: a constant is laid out anew at each use
+pub fn letter_sets() -> [u8; 26]
+    ensures { λ r. ⌜ r ≡ letterSets ⌝ }
+{
+    SETS
+}
+
+// the set of a byte, by that table
+pub fn set_in(sets: &[u8; 26], byte: u8) -> u8
+    requires { ⌜ now sets ≡ letterSets ⌝ }
     ensures { λ r. ⌜ (r ≡ setOf byte) × (r < 16) ⌝ }
 {
     if byte < 65 {
@@ -66,7 +75,15 @@ pub fn set_of(byte: u8) -> u8
         return 0;
     }
     let k = (byte - 65) as usize;
-    SETS[k]
+    sets[k]
+}
+
+// the set of a byte
+pub fn set_of(byte: u8) -> u8
+    ensures { λ r. ⌜ (r ≡ setOf byte) × (r < 16) ⌝ }
+{
+    let sets = letter_sets();
+    set_in(&sets, byte)
 }
 
 // the letter of a set

@@ -1,8 +1,8 @@
 -- Document 02, item 6, over the contracts of the calls: the list of places has exactly those at which the primer sits, in order; the reverse complement taken twice gives the
 -- primer back; and both strands have the same places. Each time a holds the arguments of a call, r is what it returns, and e holds the arguments afterwards. Assumes nothing.
-use Prim.Native.Nat.{ℕ, suc, _+_, _≤_, _<_}
+use Prim.Native.Nat.{ℕ, _≤_, _<_}
 use mathlib.Core.Path.{_≡_, refl, sym, ap, _∙_}
-use mathlib.Core.Logic.{_↔_, _≢_}
+use mathlib.Core.Logic.{_↔_}
 use mathlib.Core.List.{List}
 use native.Mathlib.Omega.{arith}
 use lib.ListN.{length, getD, take}
@@ -11,7 +11,6 @@ use denote.Ref.{now}
 use Rattle.words.specs.Answers.{Answer, success, refusal}
 use Rattle.words.proofs.Passing.{In, Rising}
 use Rattle.words.proofs.Afterwards.{front}
-use Rattle.words_primers.specs.Bases.{setOf}
 use Rattle.words_primers.specs.Primers.{firstForeign, places, reverseComplement}
 use Rattle.words_primers.specs.Calls.{placedSays, turnedSays}
 use Rattle.words_primers.proofs.Turning.{Primer, none-foreign, all-own, FirstForeign, first-foreign, reverse-complement-twice, reverse-complement-primer, reverse-length}

@@ -1,12 +1,11 @@
 -- The part that is handed back, slice by slice: what its bytes are, in which block it lies and where it starts there; and the same as numbers. Assumes nothing.
 use Prim.Native.Nat.{ℕ, _+_, _-_}
-use mathlib.Core.Path.{_≡_, refl, ap, subst, _∙_}
+use mathlib.Core.Path.{_≡_, refl, ap}
 use mathlib.Core.Bool.{cond}
 use mathlib.Core.List.{List, []}
 use native.Mathlib.Omega.{arith}
 use lib.ListN.{length, take, drop}
 use denote.Ref.{RefT, ptr, now}
-use Rattle.words.specs.Range.{bit}
 use Rattle.words_markers.specs.Calls.{ofHouse, fromOf, countOf, partOf}
 use Rattle.words_markers.specs.declared.Shown.{Shown}
 use Rattle.marker_calls.specs.Parts.{shownPart}

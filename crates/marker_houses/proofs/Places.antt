@@ -2,11 +2,9 @@
 use Prim.Native.Nat.{ℕ, _-_, _≤_, _<_}
 use mathlib.Core.Path.{_≡_, refl, sym, ap, _∙_}
 use mathlib.Core.Bool.{Bool, true, false, cond}
-use mathlib.Core.List.{List, [], _∷_}
+use mathlib.Core.List.{List}
 use native.Mathlib.Omega.{arith}
 use lib.ListN.{length, take, drop}
-use types.Run.{OneOf}
-use denote.Enum.Declared.{tagOf}
 use Rattle.words.specs.Reads.{same}
 use Rattle.words_markers.specs.Houses.{lineEnd, lineStart, hasLine, houseLine, houseHas}
 use Rattle.words_markers.proofs.Houses.{end-low, end-high, has-line, has-line-is, no-line-after, house-has, house-has-not}

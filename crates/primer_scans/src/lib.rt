@@ -7,7 +7,9 @@ ghost use lib.ListN.{length};
 ghost use Rattle.words_primers.specs.Primers.{longest, places};
 ghost use Rattle.row_cells.specs.Listing.{Listing};
 ghost use Rattle.primer_scans.specs.Fronts.{Words, Noted, AllLet};
+use base_sets::letter_sets;
 use base_sets::matches;
+use base_sets::set_in;
 use base_sets::set_of;
 use row_cells::add;
 
@@ -47,12 +49,13 @@ pub fn scan(out: &mut [u16], read: &[u8], primer: &[u8]) -> usize
     ensures { λ r. ⌜ Listing 1 (now (out .entry)) (places (now (read .entry)) (now (primer .entry))) r (now (out .exit)) ⌝ }
 {
     let all = letting(primer);
+    let sets = letter_sets();
     let last = primer.len() - 1;
     let mut fronts: u64 = 0;
     let mut count: usize = 0;
     let mut j: usize = 0;
     while j < read.len() {
-        fronts = (2 * fronts + 1) & all[set_of(read[j]) as usize];
+        fronts = (2 * fronts + 1) & all[set_in(&sets, read[j]) as usize];
         j += 1;
         if (fronts >> last) % 2 == 1 {
             let i = j - last;

@@ -1,21 +1,21 @@
 -- The leading repeats that have a motif and lie between two positions: what the test says, that the motif gives the period and the start the copies, and that whether the motif
 -- is primitive can be asked of the motif alone. Assumes nothing.
-use Prim.Native.Nat.{ℕ, suc, _+_, _-_, _*_, _≤_, _<_, min}
-use mathlib.Core.Path.{_≡_, refl, sym, ap, subst, _∙_}
-use mathlib.Core.Logic.{⊎-elim, _↔_, _≢_}
+use Prim.Native.Nat.{ℕ, suc, _+_, _-_, _*_, _≤_, _<_}
+use mathlib.Core.Path.{_≡_, sym, ap, subst, _∙_}
+use mathlib.Core.Logic.{⊎-elim, _≢_}
 use mathlib.Core.Bool.{true, false}
 use mathlib.Core.List.{List}
 use native.Mathlib.Omega.{arith}
 use native.Mathlib.Nat.{mul-le-mul-left}
 use lib.ListN.{length, getD, take, drop, length-take, length-drop}
 use lib.Seq.{getD-take, getD-drop, ext-getD}
-use borrow.Author.Tests.{leb-true, le-leb, lt-leb, not-true}
-use Rattle.words.specs.Reads.{at, unread, letter, stretch, same}
+use borrow.Author.Tests.{leb-true, le-leb, not-true}
+use Rattle.words.specs.Reads.{at, unread, stretch, same}
 use Rattle.words.specs.Repeats.{primitive, repeats, leads, copies}
 use Rattle.words.proofs.Tests.{and-left, and-right, same-test, fails}
 use Rattle.words.proofs.Letters.{letter-is, letter-read, letters-tell}
 use Rattle.words.proofs.Stretches.{same-is, same-self, stretch-at}
-use Rattle.words.proofs.Repeats.{Repeat, repeat-is, is-repeat, is-primitive}
+use Rattle.words.proofs.Repeats.{repeat-is}
 use Rattle.words.proofs.Copies.{copies-stand, repeat-copies}
 use Rattle.words.proofs.Claims.{PrimitiveString, stretch-length, primitive-means}
 use Rattle.words_markers.specs.Fits.{hasMotif, between, fits, fitting}

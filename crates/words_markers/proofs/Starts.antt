@@ -1,8 +1,7 @@
 -- The starts of the repeats that fit, one start at a time and all together: by the first of them and the second. Assumes nothing.
 use Prim.Native.Nat.{ℕ, suc, _+_, _-_, _*_, _/_, _≤_, _<_}
-use mathlib.Core.Path.{_≡_, refl, sym, ap, subst, _∙_}
-use mathlib.Core.Logic.{_⊎_, inl, inr}
-use mathlib.Core.Bool.{true, false, _&&_}
+use mathlib.Core.Path.{_≡_, refl, sym, ap, _∙_}
+use mathlib.Core.Bool.{true, false}
 use mathlib.Core.List.{List, [], _∷_}
 use native.Mathlib.Omega.{arith}
 use lib.ListN.{length, take, drop}
@@ -20,7 +19,7 @@ use Rattle.words_markers.specs.Sites.{only, onlyOne}
 use Rattle.words_markers.specs.declared.Unscored.{Unscored}
 use Rattle.words_markers.specs.declared.Site.{Site}
 use Rattle.words_markers.proofs.Seating.{none-yes, none-no, several-yes, several-no}
-use Rattle.words_markers.proofs.Fitting.{has-motif-is, is-has-motif, Fits, is-fits, fits-inside, fits-fitting, fitting-is, fitting-not, motif-primitive}
+use Rattle.words_markers.proofs.Fitting.{has-motif-is, is-has-motif, Fits, fits-inside, fits-fitting, fitting-is, fitting-not, motif-primitive}
 
 -- ---- one start
 
@@ -110,8 +109,8 @@ module _ (x m : List ℕ) (lo hi : ℕ) where
       let P = passes (fitting x m lo hi) (length x) 1 in
       record {
         exactly = λ i. (
-          λ w. (length m, copies x i (length m), fitting-is x m lo hi i (subst (λ (v : ℕ). fitting x m lo hi v ≡ true) (w .2) (P .only (w .0) (w .1) .2))),
-          λ s. let n = fits-inside x m lo hi i (s .0) (s .1) (s .2) in P .each i (n .0) (omega (arith, n .1, n .3, n .4)) (fits-fitting x m lo hi i (s .0) (s .1) (s .2)),
+          λ w. (length m, copies x i (length m), fitting-is x m lo hi i (P .exactly i .0 w .2)),
+          λ s. let n = fits-inside x m lo hi i (s .0) (s .1) (s .2) in P .exactly i .1 (n .0, omega (arith, n .1, n .3, n .4), fits-fitting x m lo hi i (s .0) (s .1) (s .2)),
         );
         rises = P .rises;
       }

@@ -69,9 +69,9 @@ module _ (x u : List ℕ) where
   pub places-exactly : (i : ℕ) → In (places x u) i ↔ ((1 ≤ i) × (i ≤ length x) × (sits x u i ≡ true))
   unfolding places
   places-exactly i =
-      let P = passes (sits x u) (length x) 1 in (
-        λ w. let o = P .only (w .0) (w .1) in rw (← w .2) (o .0, omega (arith, o .1), o .2),
-        λ m. P .each i (m .0) (omega (arith, m .1)) (m .2),
+      let P = passes (sits x u) (length x) 1 .exactly i in (
+        λ w. let o = P .0 w in (o .0, omega (arith, o .1), o .2),
+        λ m. P .1 (m .0, omega (arith, m .1), m .2),
       )
 
   -- a primer longer than the read sits nowhere

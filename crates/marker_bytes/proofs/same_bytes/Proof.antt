@@ -1,6 +1,5 @@
 -- `marker_bytes::same_bytes` meets its contract: bytes are compared until one differs. Assumes nothing.
 use Prim.Native.Nat.{_≤_, _-_}
-use mathlib.Core.Path.{_≡_, sym}
 use native.Mathlib.Omega.{arith}
 use lib.ListN.{length}
 use borrow.Author.Needs.{needs}

@@ -1,5 +1,5 @@
 -- `marker_calls::find_site` meets its contract: what lies between the primers is searched, and what is refused stays refused. Assumes nothing.
-use mathlib.Core.Path.{_≡_, sym, _∙_}
+use mathlib.Core.Path.{sym, _∙_}
 use borrow.Author.Needs.{needs}
 use Rattle.words_markers.specs.declared.Seats.{Seats}
 use Rattle.words_markers.proofs.Seated.{between-inside, seats-exactly}

@@ -4,7 +4,7 @@ use native.Mathlib.Omega.{arith}
 use lib.IntN.{ℤ}
 use borrow.Author.Needs.{needs}
 use Rattle.words.specs.Answers.{success}
-use Rattle.words_markers.specs.Calls.{Score, scoredSays, scoreOf}
+use Rattle.words_markers.specs.Calls.{scoredSays, scoreOf}
 use Rattle.marker_calls.proofs.Differences.{difference-fits, difference-is}
 use Rattle.marker_calls.proofs.score_of.Statement.{statement}
 use Rattle.marker_calls.proofs.score_of.Tie as tie

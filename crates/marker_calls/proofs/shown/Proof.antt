@@ -1,9 +1,7 @@
 -- `marker_calls::shown` meets its contract, slice by slice: the part lies in the slice that the rule says, and is the one that is shown. Assumes nothing.
-use Prim.Native.Nat.{_+_, _≤_}
 use mathlib.Core.Path.{_≡_, sym, _∙_}
 use native.Mathlib.Omega.{arith}
 use borrow.Author.Needs.{needs}
-use lib.ListN.{length}
 use denote.Ref.{now}
 use Rattle.words_markers.specs.Calls.{shown}
 use Rattle.words_markers.specs.declared.Shown.{Shown}

@@ -1,5 +1,5 @@
 -- `marker_fits::next_fit` meets its contract. The loop's invariant: none fits from the first position on and before i; the measure is how many positions are left. Assumes nothing.
-use Prim.Native.Nat.{suc, _+_, _-_, _≤_}
+use Prim.Native.Nat.{suc, _-_, _≤_}
 use mathlib.Core.Path.{refl, sym, _∙_}
 use native.Mathlib.Omega.{arith}
 use mathlib.Core.Logic.{⊎-elim}

@@ -1,17 +1,13 @@
 -- `marker_seats::seat` meets its contract: each return is the definition's, way by way. Assumes nothing.
-use Prim.Native.Nat.{_≤_}
-use mathlib.Core.Path.{_≡_, sym, ap, _∙_}
+use mathlib.Core.Path.{_≡_, sym, _∙_}
 use mathlib.Core.Bool.{true}
 use lib.ListN.{length}
 use borrow.Author.Needs.{needs}
 use borrow.Author.Tests.{not-true, not-false}
 use denote.Ref.{now}
-use Rattle.words.specs.Reads.{most}
 use Rattle.words.specs.Logs.{within}
 use Rattle.words.proofs.Within.{within-is}
 use Rattle.words_primers.specs.Primers.{longest}
-use Rattle.words_markers.specs.declared.Unscored.{Unscored}
-use Rattle.words_markers.specs.declared.Seats.{Seats}
 use Rattle.words_markers.proofs.Seating.{too-long, left-length, right-length, left-foreign, right-foreign, judged-seats}
 use Rattle.marker_seats.proofs.seat.Statement.{statement}
 use Rattle.marker_seats.proofs.seat.Tie as tie
