@@ -1,7 +1,6 @@
 -- What `find_primer` and `reverse_complement` answer and leave, way by way: each answer says what document 02 says there, and no two answers say the same. Assumes nothing.
 use Prim.Native.Nat.{ℕ, _≤_, _<_}
 use mathlib.Core.Path.{_≡_, refl, sym, ap, _∙_}
-use mathlib.Core.Logic.{_⊎_}
 use mathlib.Core.Bool.{false, cond}
 use mathlib.Core.List.{List, _++_}
 use native.Mathlib.Omega.{arith}
@@ -17,7 +16,7 @@ use Rattle.words_primers.specs.Calls.{judged, findAnswer, findLeaves, turnAnswe
 use Rattle.words_primers.specs.declared.Placed.{Placed}
 use Rattle.words_primers.specs.declared.Turned.{Turned}
 use Rattle.words_primers.proofs.Judged.{length-judged, foreign-judged, good-judged}
-use Rattle.words_primers.proofs.Turning.{reverse-length}
+use Rattle.words_primers.proofs.Turning.{BadLength, reverse-length}
 use Rattle.row_cells.specs.Listing.{Listing}
 
 -- ---- the places
@@ -45,7 +44,7 @@ module _ (x u out : List ℕ) where
     unfolding findAnswer refuse tooLong
     short = rw (le-ltb most (length x) few) refl
 
-    pub length-said : (length u < 1) ⊎ (longest < length u) → Finds x u out (Placed.BadLength (length u)) out
+    pub length-said : BadLength u → Finds x u out (Placed.BadLength (length u)) out
     unfolding placedSays
     length-said h = refused (Placed.BadLength (length u)) 8 (length u) refl (short ∙ length-judged u room h) refl refl
 
@@ -103,7 +102,7 @@ module _ (u out : List ℕ) where
   abbrev length-room : Answer
   length-room = refuse (ltb (length out) (length u)) 4 (length u) (success (length u))
 
-  pub length-turned : (length u < 1) ⊎ (longest < length u) → Turns u out (Turned.BadLength (length u)) out
+  pub length-turned : BadLength u → Turns u out (Turned.BadLength (length u)) out
   unfolding turnedSays turnAnswer
   length-turned h = unturned (Turned.BadLength (length u)) 8 (length u) refl (length-judged u length-room h) refl
 

@@ -32,7 +32,8 @@ use Rattle.words_primers.proofs.Judged.{length-judged, foreign-judged, good-jud
 use Rattle.words.proofs.Tests.{either, or-left, or-right, lt-or-ge}
 use Rattle.words.proofs.Within.{within-yes, within-no}
 use Rattle.words.proofs.Afterwards.{success-front, success-list, list-full, refused-same, refused-list}
-use Rattle.lister.proofs.Refusals.{Row, rowAt, Follows, By, listRows, runsRows, tableRows, logRows, ReplayWidth, replayRows, claimRows, GoodPrimer, BadLength, HasForeign, findRows, turnRows, indexRows, bothRows, listIndexRows, besideRows}
+use Rattle.words_primers.proofs.Turning.{BadLength}
+use Rattle.lister.proofs.Refusals.{Row, rowAt, Follows, By, listRows, runsRows, tableRows, logRows, ReplayWidth, replayRows, claimRows, GoodPrimer, HasForeign, findRows, turnRows, indexRows, bothRows, listIndexRows, besideRows}
 
 -- where some row holds and each that holds is followed, the answer goes by the table
 goes-by : (t : List Row) (a : Answer) (s : List ℕ) → (k : ℕ) × rowAt t k .when → Follows t a s → By t a s

@@ -19,6 +19,7 @@ use Rattle.words_index.specs.Index.{firstLoose, inOrder, entrySize, index, entr
 use Rattle.words_runs.specs.Runs.{runSize, runs, runCount}
 use Rattle.words_claims.specs.Calls.{verdict, claimedSays}
 use Rattle.words_primers.specs.Primers.{longest, firstForeign, places, reverseComplement}
+use Rattle.words_primers.proofs.Turning.{BadLength}
 
 -- one row: when its number is given, what is returned with it, and the lent slice afterwards
 pub record Row : Type 1 where
@@ -112,10 +113,7 @@ claimRows x i p e = record { when = length x ≤ most; returns = claimedSays (ve
 abbrev pub GoodPrimer : List ℕ → Type 0
 GoodPrimer u = (1 ≤ length u) × (length u ≤ longest) × (length u ≤ firstForeign u)
 
--- one of another length, or with a foreign letter
-abbrev pub BadLength : List ℕ → Type 0
-BadLength u = (length u < 1) ⊎ (longest < length u)
-
+-- one with a foreign letter
 abbrev pub HasForeign : List ℕ → Type 0
 HasForeign u = (1 ≤ length u) × (length u ≤ longest) × (firstForeign u < length u)
 

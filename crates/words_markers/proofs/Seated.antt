@@ -1,17 +1,16 @@
 -- What lies between the primers of a read, or why nothing does: what each answer says, in the document's words, and that it is given if and only if that is so. Assumes nothing.
 use Prim.Native.Nat.{ℕ, suc, _+_, _≤_, _<_}
 use mathlib.Core.Path.{_≡_, refl, _∙_}
-use mathlib.Core.Logic.{_⊎_, inl, inr, ⊎-elim, _↔_, _≢_}
+use mathlib.Core.Logic.{_⊎_, inl, inr, ⊎-elim, _↔_}
 use mathlib.Core.List.{List}
 use native.Mathlib.Omega.{arith}
-use lib.ListN.{length, getD}
+use lib.ListN.{length}
 use Rattle.words.specs.Reads.{most}
 use Rattle.words.proofs.Tests.{told-exactly, lt-or-ge}
 use Rattle.words.proofs.Within.{within-yes, within-no}
 use Rattle.words.proofs.Passing.{Rising}
-use Rattle.words_primers.specs.Bases.{setOf}
 use Rattle.words_primers.specs.Primers.{longest, firstForeign, places}
-use Rattle.words_primers.proofs.Turning.{Primer, none-foreign, all-own, FirstForeign, first-foreign, first-foreign-is}
+use Rattle.words_primers.proofs.Turning.{GoodLength, BadLength, AllOwn, Primer, none-foreign, all-own, FirstForeign, first-foreign, first-foreign-is}
 use Rattle.words_primers.proofs.Places.{Sits, places-sit}
 use Rattle.words_markers.specs.Sites.{seat, behind, seated, seats}
 use Rattle.words_markers.specs.declared.Unscored.{Unscored}
@@ -20,17 +19,6 @@ use Rattle.words_markers.proofs.Counts.{Nowhere, Once, Often, some-is, 
 use Rattle.words_markers.proofs.Seating.{left-missing, right-missing, left-often, right-often, out-of-order, in-order, too-long, left-length, right-length, left-foreign, right-foreign, judged-seats}
 
 -- ---- the words
-
--- a primer of 1 to 60 letters, and one of another length
-abbrev pub GoodLength : List ℕ → Type 0
-GoodLength u = (1 ≤ length u) × (length u ≤ longest)
-
-abbrev pub BadLength : List ℕ → Type 0
-BadLength u = (length u < 1) ⊎ (longest < length u)
-
--- each of its letters is one of the code
-abbrev pub AllOwn : List ℕ → Type 0
-AllOwn u = (k : ℕ) → k < length u → setOf (getD u k 0) ≢ 0
 
 -- it sits somewhere
 abbrev pub Somewhere : List ℕ → List ℕ → Type 0

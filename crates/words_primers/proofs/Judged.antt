@@ -1,7 +1,6 @@
 -- How a primer is judged: refusal 8, then 9, then what comes later. Assumes nothing.
 use Prim.Native.Nat.{ℕ, _≤_, _<_}
 use mathlib.Core.Path.{_≡_, refl}
-use mathlib.Core.Logic.{_⊎_}
 use mathlib.Core.List.{List}
 use lib.ListN.{length}
 use borrow.Author.Tests.{lt-ltb, le-ltb}
@@ -10,9 +9,10 @@ use Rattle.words.specs.Calls.{refuse}
 use Rattle.words.proofs.Within.{within-yes, within-no}
 use Rattle.words_primers.specs.Primers.{longest, firstForeign}
 use Rattle.words_primers.specs.Calls.{judged}
+use Rattle.words_primers.proofs.Turning.{BadLength}
 
 module _ (u : List ℕ) (later : Answer) where
-  pub length-judged : (length u < 1) ⊎ (longest < length u) → judged u later ≡ refusal 8 (length u)
+  pub length-judged : BadLength u → judged u later ≡ refusal 8 (length u)
   unfolding judged refuse
   length-judged h = rw (within-no 1 longest (length u) h) refl
 

@@ -1,7 +1,7 @@
 -- The reverse complement: its letters, that the one of a primer is a primer, and that taken twice it gives the primer back. Assumes nothing.
 use Prim.Native.Nat.{ℕ, _-_, _≤_, _<_}
 use mathlib.Core.Path.{_≡_, sym, ap, _∙_}
-use mathlib.Core.Logic.{_≢_, ⊎-elim}
+use mathlib.Core.Logic.{_⊎_, _≢_, ⊎-elim}
 use mathlib.Core.List.{List}
 use native.Mathlib.Omega.{arith}
 use lib.ListN.{length, getD}
@@ -31,11 +31,22 @@ turned-twice b own = ap (λ (v : ℕ). letterFor (complementOf v)) (turned-set b
 
 -- ---- a primer
 
+-- 1 to 60 letters, or another number of them
+abbrev pub GoodLength : List ℕ → Type 0
+GoodLength u = (1 ≤ length u) × (length u ≤ longest)
+
+abbrev pub BadLength : List ℕ → Type 0
+BadLength u = (length u < 1) ⊎ (longest < length u)
+
+-- each letter is one of the code
+abbrev pub AllOwn : List ℕ → Type 0
+AllOwn u = (k : ℕ) → k < length u → setOf (getD u k 0) ≢ 0
+
 -- 1 to 60 letters, each of the code
 pub record Primer (u : List ℕ) : Type 0 where
   pub some : 1 ≤ length u
   pub few : length u ≤ longest
-  pub own : (k : ℕ) → k < length u → setOf (getD u k 0) ≢ 0
+  pub own : AllOwn u
 
 module _ (u : List ℕ) where
   -- the first foreign letter is one, and none before it is
@@ -48,10 +59,10 @@ module _ (u : List ℕ) where
   foreign-first k l = eqb-false (setOf (getD u k 0)) 0 (found (foreign u) (length u) 0 .least k (omega arith) l)
 
   -- it lies behind the last exactly if no letter is foreign
-  pub none-foreign : length u ≤ firstForeign u → (k : ℕ) → k < length u → setOf (getD u k 0) ≢ 0
+  pub none-foreign : length u ≤ firstForeign u → AllOwn u
   none-foreign h k l = foreign-first k (omega arith)
 
-  pub all-own : ((k : ℕ) → k < length u → setOf (getD u k 0) ≢ 0) → length u ≤ firstForeign u
+  pub all-own : AllOwn u → length u ≤ firstForeign u
   all-own own = ⊎-elim (λ l. absurd (own (firstForeign u) l (foreign-at l))) (λ l. l) (lt-or-ge (firstForeign u) (length u))
 
   -- letter k is no letter of the code, and the first such
@@ -77,7 +88,7 @@ module _ (u : List ℕ) where
   unfolding reverseComplement
   reverse-at k l = getD-cells (λ j. turned (getD u (length u - 1 - j) 0)) (length u) 0 k l ∙ ap (λ (j : ℕ). turned (getD u (length u - 1 - j) 0)) (omega arith)
 
-module _ (u : List ℕ) (own : (k : ℕ) → k < length u → setOf (getD u k 0) ≢ 0) where
+module _ (u : List ℕ) (own : AllOwn u) where
   -- taken twice it gives back any string of the code's letters
   pub reverse-complement-twice : reverseComplement (reverseComplement u) ≡ u
   reverse-complement-twice =

@@ -1,18 +1,16 @@
 -- `call_primers::find_primer` meets its contract: each return says what document 02 says there. Assumes nothing.
-use Prim.Native.Nat.{_≤_}
 use mathlib.Core.Path.{sym, _∙_}
-use lib.ListN.{length}
 use borrow.Author.Needs.{needs}
 use borrow.Author.Tests.{not-true, not-false}
 use denote.Ref.{now}
 use Rattle.words.proofs.Within.{within-is, within-not}
-use Rattle.words_primers.specs.Primers.{longest}
+use Rattle.words_primers.proofs.Turning.{GoodLength}
 use Rattle.call_primers.proofs.Said.{long-said, length-said, foreign-said, full-said, places-said}
 use Rattle.call_primers.proofs.find_primer.Statement.{statement}
 use Rattle.call_primers.proofs.find_primer.Tie as tie
 
 -- the length that passed
-good : (c : tie.Else2) → let u = now (c .before .before .before .before .before .before .args .primer) in (1 ≤ length u) × (length u ≤ longest)
+good : (c : tie.Else2) → let u = now (c .before .before .before .before .before .before .args .primer) in GoodLength u
 good c = within-is _ _ _ (sym (c .before .good-length .ensures) ∙ not-false _ (c .if2 .left))
 
 returns : tie.Need-returns
