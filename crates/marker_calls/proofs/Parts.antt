@@ -40,3 +40,8 @@ module _ (m : List ℕ) (s : Shown) where
   pub no-numbers : s ≡ Shown.Nothing → record { house = 0; from = 0; count = 0 } ≡ shownPart m s
   unfolding shownPart ofHouse fromOf countOf
   no-numbers e = rw e
+
+  -- the numbers name the part that is shown
+  pub part-bytes : (x h : List ℕ) → take (shownPart m s .count) (drop (shownPart m s .from) (cond (ofHouse s) h x)) ≡ partOf x h m s
+  unfolding shownPart partOf
+  part-bytes x h = refl

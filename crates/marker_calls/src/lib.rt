@@ -1,5 +1,5 @@
-// Marker scoring, a crate above the library (document 02, item 7). A marker is a number, a left and a right primer, a motif and a reference count, any byte; it comes in as lent
-// slices and numbers. Both calls answer any input, and go by one definition, `site`: the only repeat that is scored, or the first refusal in the order.
+// The calls of a marker (document 02, item 7), a number, a left and a right primer, a motif and a reference count, any byte, which come in as lent slices and numbers.
+// Both answer any input, and go by one definition, `site`: the only repeat that is scored, or the first refusal in the order.
 // `score` promises its copies and their signed difference from the reference, or the refusal. `shown` promises the motif, uncopied, as a part of one of the two lent slices, by its
 // bytes, its slice and its place: of the house list if that has the marker, otherwise of the read; of a read not scored the empty part at its front. `shown_part` gives slice, place and count.
 ghost use mathlib.Core.Path.{_≡_};

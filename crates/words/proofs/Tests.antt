@@ -4,8 +4,8 @@ use native.Mathlib.Omega.{arith}
 use lib.Dec.{ltb, eqb}
 use borrow.Author.Tests.{ltb-true, ltb-false, le-ltb, eqb-true, eq-eqb, ne-eqb}
 use Rattle.words.specs.Range.{bit}
-use mathlib.Core.Path.{_≡_, refl, sym, subst, _∙_}
-use mathlib.Core.Logic.{_⊎_, inl, inr, ⊎-elim, _↔_, _≢_}
+use mathlib.Core.Path.{_≡_, refl, sym, _∙_}
+use mathlib.Core.Logic.{_⊎_, inl, inr, ⊎-elim, _≢_}
 use mathlib.Core.Bool.{Bool, true, false, _&&_, _||_, not, false≢true, true≢false}
 
 pub either : (b : Bool) → (b ≡ true) ⊎ (b ≡ false)
@@ -44,10 +44,6 @@ pub same-test : (a b : Bool) → (a ≡ true → b ≡ true) → (b ≡ true →
 same-test true b f g = sym (f refl)
 same-test false true f g = g refl
 same-test false false f g = refl
-
--- an answer v: if what is so is told, and of one answer what it says is so, then any answer is told if and only if what it says is so
-pub told-exactly : {A : Type 0} (v : A) (Says : A → Type 0) → ((a : A) → Says a → v ≡ a) → (a : A) × Says a → (a : A) → (v ≡ a) ↔ Says a
-told-exactly v Says told one a = (λ q. subst Says (sym (told (one .0) (one .1)) ∙ q) (one .1), told a)
 
 pub lt-or-ge : (a b : ℕ) → (a < b) ⊎ (b ≤ a)
 lt-or-ge a b = ⊎-elim (λ t. inl (ltb-true a b t)) (λ t. inr (ltb-false a b t)) (either (ltb a b))

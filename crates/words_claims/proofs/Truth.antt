@@ -11,7 +11,8 @@ use lib.Dec.{leb}
 use borrow.Author.Tests.{le-leb, not-true}
 use Rattle.words.specs.Reads.{most, at, unread, stretch}
 use Rattle.words.specs.Repeats.{stands, primitive, repeats, copies, written}
-use Rattle.words.proofs.Tests.{and-both, clash, told-exactly, fails, lt-or-ge}
+use Rattle.words.proofs.Tests.{and-both, clash, fails, lt-or-ge}
+use Rattle.words.proofs.Told.{told-exactly}
 use Rattle.words.proofs.Repeats.{Repeat, stands-is, is-stands, repeat-is, is-repeat, is-primitive}
 use Rattle.words.proofs.Copies.{copies-stand, copies-end, copies-is, repeat-copies}
 use Rattle.words.proofs.Lines.{copies-repeat}

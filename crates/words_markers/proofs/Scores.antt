@@ -10,7 +10,7 @@ use lib.IntN.{ℤ, subℕ}
 use Rattle.words.specs.Reads.{at, unread}
 use Rattle.words.specs.Answers.{success}
 use Rattle.words.specs.Repeats.{primitive, copies}
-use Rattle.words.proofs.Tests.{told-exactly}
+use Rattle.words.proofs.Told.{told-exactly}
 use Rattle.words.proofs.Repeats.{repeat-is, is-primitive}
 use Rattle.words_markers.specs.Sites.{site}
 use Rattle.words_markers.specs.Calls.{unscoredSays, scoredSays, scoreOf, scoreAnswer}

@@ -6,7 +6,8 @@ use mathlib.Core.List.{List}
 use native.Mathlib.Omega.{arith}
 use lib.ListN.{length}
 use Rattle.words.specs.Reads.{most}
-use Rattle.words.proofs.Tests.{told-exactly, lt-or-ge}
+use Rattle.words.proofs.Tests.{lt-or-ge}
+use Rattle.words.proofs.Told.{told-exactly}
 use Rattle.words.proofs.Within.{within-yes, within-no}
 use Rattle.words.proofs.Passing.{Rising}
 use Rattle.words_primers.specs.Primers.{longest, firstForeign, places}

@@ -6,7 +6,8 @@ use mathlib.Core.Bool.{true, false}
 use mathlib.Core.List.{List}
 use native.Mathlib.Omega.{arith}
 use lib.ListN.{length, take, drop}
-use Rattle.words.proofs.Tests.{either, told-exactly}
+use Rattle.words.proofs.Tests.{either}
+use Rattle.words.proofs.Told.{told-exactly}
 use Rattle.words_markers.specs.Houses.{lineStart, houseHas}
 use Rattle.words_markers.specs.Sites.{site}
 use Rattle.words_markers.specs.Calls.{shownFor, shown}

@@ -9,7 +9,8 @@ use native.Mathlib.Nat.{mul-le-mul-right}
 use lib.ListN.{length, take, drop}
 use Rattle.words.specs.Reads.{most}
 use Rattle.words.specs.Repeats.{copies}
-use Rattle.words.proofs.Tests.{told-exactly, lt-or-ge}
+use Rattle.words.proofs.Tests.{lt-or-ge}
+use Rattle.words.proofs.Told.{told-exactly}
 use Rattle.words.proofs.Passing.{Rising}
 use Rattle.words_markers.specs.Fits.{fittings}
 use Rattle.words_markers.specs.Sites.{only, seats, onlyOne, siteIn, site}
