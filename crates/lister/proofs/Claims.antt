@@ -10,6 +10,7 @@ use lib.ListN.{length}
 use denote.Ref.{now}
 use Rattle.words.specs.Reads.{most, at, unread, stretch}
 use Rattle.words.specs.Repeats.{stands, repeats, written}
+use Rattle.words.specs.Rows.{rows}
 use Rattle.words.specs.Lists.{lineOf, lineSize}
 use Rattle.words.specs.Answers.{success, listedSays}
 use Rattle.words.proofs.Rows.{Has}
@@ -45,13 +46,13 @@ yes-exactly-for-a-repeat κs a r e h = (
 
 -- so it is yes if and only if the full list has that line, where the list call succeeds on the read
 pub yes-exactly-for-a-line : (κs : _) (a : _) (r : _) (e : _) → list-call.Learnt κs a r e → listedSays r .number ≡ 0 → a .1 .0 ≡ 0 → (ls : _) (b : _) (q : _) (f : _) → claim-call.Learnt ls b q f → now (b .0) ≡ now (a .0)
-    → (made : List ℕ) × (now (e .1 .1 .0) ≡ front made (now (a .1 .1 .0))) × ((claimedSays q ≡ success 1) ↔ Has lineSize made (lineOf (b .1 .0) (b .1 .1 .0) (b .1 .1 .1 .0)))
+    → (made : List ℕ) × (now (e .1 .1 .0) ≡ front made (now (a .1 .1 .0))) × (listedSays r ≡ success (rows lineSize made)) × ((claimedSays q ≡ success 1) ↔ Has lineSize made (lineOf (b .1 .0) (b .1 .1 .0) (b .1 .1 .1 .0)))
 yes-exactly-for-a-line κs a r e h ok mode ls b q f g same =
     let L = list-is-crochemores κs a r e h ok in
     let line = L .3 .full mode (b .1 .0) (b .1 .1 .0) (b .1 .1 .1 .0) in
     let yes = rw same at (yes-exactly-for-a-repeat ls b q f g) in
     let short = every-call-is-answered .list κs a .1 r e h .exactly 0 .0 ok .0 in
-    (L .0, L .1, (λ t. line .1 (yes .0 t .1), λ l. yes .1 (short, line .0 l)))
+    (L .0, L .1, L .2, (λ t. line .1 (yes .0 t .1), λ l. yes .1 (short, line .0 l)))
 
 -- the root that is named is shorter than the motif, writes it, is primitive, and is the only primitive string that, written several times, is the motif
 pub the-root-named-is-the-only : (κs : _) (a : _) (r : _) (e : _) → claim-call.Learnt κs a r e → (d : ℕ) → r ≡ Claimed.Shorter d

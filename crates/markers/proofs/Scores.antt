@@ -10,6 +10,7 @@ use lib.IntN.{subℕ}
 use denote.Ref.{now}
 use Rattle.words.specs.Reads.{at, unread}
 use Rattle.words.specs.Repeats.{primitive, repeats}
+use Rattle.words.specs.Rows.{rows}
 use Rattle.words.specs.Lists.{lineOf, lineSize}
 use Rattle.words.specs.Answers.{success, refusal, listedSays}
 use Rattle.words.proofs.Rows.{Has}
@@ -69,14 +70,14 @@ pub a-scored-motif-is-a-repeats : (κs : _) (a : _) (r : _) (e : _) → score-ca
     (1 ≤ length m) × (2 * length m ≤ length (now (a .0))) × (primitive m 1 (length m) ≡ true) × ((k : ℕ) → k < length m → at m (1 + k) ≢ unread)
 a-scored-motif-is-a-repeats κs a r e h c q = one-motif _ _ _ _ (a .1 .1 .1 .1 .0) c (a-score-exactly-for-the-only-repeat-that-fits κs a r e h c .0 q)
 
--- where the list call succeeds on the read in mode 0, the repeat that is scored is a line of that list, with so many copies
+-- where the list call succeeds on the read in mode 0, the repeat that is scored is a line of that list, which has as many lines as the call answers, with so many copies
 pub a-score-is-a-line-of-the-list : (κs : _) (a : _) (r : _) (e : _) → list-call.Learnt κs a r e → listedSays r .number ≡ 0 → a .1 .0 ≡ 0
     → (ls : _) (b : _) (q : _) (f : _) → score-call.Learnt ls b q f → now (b .0) ≡ now (a .0) → (c : ℕ) → scoredSays q .answer ≡ success c
     → let x = now (b .0) in let m = now (b .1 .1 .1 .0) in
-    (made : List ℕ) × (now (e .1 .1 .0) ≡ front made (now (a .1 .1 .0)))
+    (made : List ℕ) × (now (e .1 .1 .0) ≡ front made (now (a .1 .1 .0))) × (listedSays r ≡ success (rows lineSize made))
     × ((lo hi : ℕ) × Between x (now (b .1 .0)) (now (b .1 .1 .0)) lo hi × ((i p : ℕ) × Alone x m lo hi i p c × Has lineSize made (lineOf i p c)))
 a-score-is-a-line-of-the-list κs a r e h ok mode ls b q f g same c s =
     let L = list-is-crochemores κs a r e h ok in
     let o = a-score-exactly-for-the-only-repeat-that-fits ls b q f g c .0 s in
     let w = o .3 in
-    (L .0, L .1, (o .0, o .1, o .2, (w .0, w .1, w .2, L .3 .full mode (w .0) (w .1) c .1 (subst (λ (x : List ℕ). repeats x (w .0) (w .1) c ≡ true) same (w .2 .0 .repeat)))))
+    (L .0, L .1, L .2, (o .0, o .1, o .2, (w .0, w .1, w .2, L .3 .full mode (w .0) (w .1) c .1 (subst (λ (x : List ℕ). repeats x (w .0) (w .1) c ≡ true) same (w .2 .0 .repeat)))))

@@ -2,7 +2,7 @@
 use Prim.Native.Nat.{ℕ, suc, _+_, _-_, _≤_}
 use mathlib.Core.Path.{_≡_, refl, ap, _∙_}
 use mathlib.Core.Logic.{_⊎_, inl, inr, _↔_}
-use mathlib.Core.Bool.{true, false}
+use mathlib.Core.Bool.{true, false, cond}
 use mathlib.Core.List.{List}
 use native.Mathlib.Omega.{arith}
 use lib.ListN.{length, take, drop}
@@ -10,7 +10,7 @@ use Rattle.words.proofs.Tests.{either}
 use Rattle.words.proofs.Told.{told-exactly}
 use Rattle.words_markers.specs.Houses.{lineStart, houseHas}
 use Rattle.words_markers.specs.Sites.{site}
-use Rattle.words_markers.specs.Calls.{shownFor, shown}
+use Rattle.words_markers.specs.Calls.{shownFor, shown, ofHouse, fromOf, countOf}
 use Rattle.words_markers.specs.declared.Unscored.{Unscored}
 use Rattle.words_markers.specs.declared.Site.{Site}
 use Rattle.words_markers.specs.declared.Shown.{Shown}
@@ -60,3 +60,13 @@ module _ (x h : List ℕ) (k : ℕ) (u v m : List ℕ) where
       let n = site-inside x u v m (suc a) (shown-exactly (Shown.Read a) .0 e .0) in
       let q : a ≡ suc a - 1 = omega arith in
       (omega (arith, n .1), ap (λ (b : ℕ). take (length m) (drop b x)) q ∙ n .4)
+
+  -- so what is shown lies in its slice, and so does the empty part
+  shown-inside : (s : Shown) → shown x h k u v m ≡ s → fromOf s + countOf m s ≤ length (cond (ofHouse s) h x)
+  unfolding ofHouse fromOf countOf
+  shown-inside (Shown.House a) e = house-part a e .0
+  shown-inside (Shown.Read a) e = read-part a e .0
+  shown-inside Shown.Nothing e = omega arith
+
+  pub part-inside : let s = shown x h k u v m in fromOf s + countOf m s ≤ length (cond (ofHouse s) h x)
+  part-inside = shown-inside (shown x h k u v m) refl
