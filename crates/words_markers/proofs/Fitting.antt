@@ -77,6 +77,17 @@ module _ (x m : List ℕ) where
     unfolding fitting
     fitting-is i t = fits-is i (length m) (copies x i (length m)) t
 
+    -- any that fits at i is the one of the motif's length and the copies there; so two that fit at one start are the same
+    pub fits-here : (i p e : ℕ) → Fits i p e → Fits i (length m) (copies x i (length m))
+    fits-here i p e f = fitting-is i (fits-fitting i p e f)
+
+    pub fits-alike : (i p e : ℕ) → Fits i p e → (j q d : ℕ) → Fits j q d → j ≡ i → (q ≡ p) × (d ≡ e)
+    fits-alike i p e f j q d g same =
+        let a = fits-only i p e f in
+        let b = fits-only j q d g in
+        let s : q ≡ p = b .0 ∙ sym (a .0) in
+        (s, sym (b .1) ∙ ap (copies x j) s ∙ ap (λ (k : ℕ). copies x k p) same ∙ a .1)
+
     pub fitting-not : (i : ℕ) → (Fits i (length m) (copies x i (length m)) → ⊥) → fitting x m lo hi i ≡ false
     fitting-not i h = not-true (fitting x m lo hi i) (fails (fitting x m lo hi i) (λ t. h (fitting-is i t)))
 

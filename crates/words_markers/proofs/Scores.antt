@@ -17,7 +17,7 @@ use Rattle.words_markers.specs.Calls.{unscoredSays, scoredSays, scoreOf,
 use Rattle.words_markers.specs.declared.Unscored.{Unscored}
 use Rattle.words_markers.specs.declared.Site.{Site}
 use Rattle.words_markers.specs.declared.Scored.{Scored}
-use Rattle.words_markers.proofs.Fitting.{fits-inside, fits-only, fits-fitting, fitting-is, motif-primitive, motif-read}
+use Rattle.words_markers.proofs.Fitting.{fits-inside, fits-only, fits-here, motif-primitive, motif-read}
 use Rattle.words_markers.proofs.Seated.{Between}
 use Rattle.words_markers.proofs.Truth.{Why, Alone, Says, one-is-so, told-if-so}
 use Rattle.words_markers.proofs.Said.{copies-said, not-said, said-once, copies-number, why-number}
@@ -83,7 +83,7 @@ module _ (x u v m : List ℕ) (reference : ℕ) where
   pub one-motif : (e : ℕ) → OneFits x u v m e → (1 ≤ length m) × (2 * length m ≤ length x) × (primitive m 1 (length m) ≡ true) × ((k : ℕ) → k < length m → at m (1 + k) ≢ unread)
   one-motif e o =
       let w = o .3 in
-      let f = fitting-is x m (o .0) (o .1) (w .0) (fits-fitting x m (o .0) (o .1) (w .0) (w .1) e (w .2 .0)) in
+      let f = fits-here x m (o .0) (o .1) (w .0) (w .1) e (w .2 .0) in
       let n = fits-inside x m (o .0) (o .1) (w .0) _ _ f in
       let once : w .0 + length m ≤ suc (length x) = omega (arith, n .3, n .4) in
       let r = repeat-is x (w .0) (length m) _ (f .repeat) in (

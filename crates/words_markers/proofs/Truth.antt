@@ -1,7 +1,7 @@
 -- The repeat that is scored, or why none is: what each answer says of a read and a marker, in the document's words, and that it is given if and only if that is so; so one answer
 -- is, and none is left over. Assumes nothing.
 use Prim.Native.Nat.{ℕ, suc, _+_, _-_, _*_, _≤_, _<_}
-use mathlib.Core.Path.{_≡_, sym, ap, _∙_}
+use mathlib.Core.Path.{_≡_, ap, _∙_}
 use mathlib.Core.Logic.{_⊎_, ⊎-elim, _↔_}
 use mathlib.Core.List.{List}
 use native.Mathlib.Omega.{arith}
@@ -19,7 +19,7 @@ use Rattle.words_markers.specs.declared.Seats.{Seats}
 use Rattle.words_markers.specs.declared.Site.{Site}
 use Rattle.words_markers.proofs.Counts.{none-is, is-none, one-is, is-one, more-is, is-more}
 use Rattle.words_markers.proofs.Seated.{Between, Unseated, SeatsSay, between-inside, seats-so, seats-exactly}
-use Rattle.words_markers.proofs.Fitting.{Fits, fits-inside, fits-only, fits-fitting, fitting-is}
+use Rattle.words_markers.proofs.Fitting.{Fits, fits-inside, fits-here, fits-alike}
 use Rattle.words_markers.proofs.Starts.{only-none, only-several, only-at, Starting, fittings-start}
 
 -- why a read is not scored
@@ -97,14 +97,6 @@ module _ (x u v m : List ℕ) where
   why-unseated Unscored.NoRepeat s = absurd s
   why-unseated Unscored.Several s = absurd s
 
-  -- repeats that fit at one start are the same: the motif gives the period, and the start the copies
-  alone-in : (lo hi i p e : ℕ) → Fits x m lo hi i p e → (j q d : ℕ) → Fits x m lo hi j q d → j ≡ i → (q ≡ p) × (d ≡ e)
-  alone-in lo hi i p e f j q d g same =
-      let a = fits-only x m lo hi i p e f in
-      let b = fits-only x m lo hi j q d g in
-      let s : q ≡ p = b .0 ∙ sym (a .0) in
-      (s, sym (b .1) ∙ ap (copies x j) s ∙ ap (λ (k : ℕ). copies x k p) same ∙ a .1)
-
   -- the number of starts decides
   between-so : (lo hi : ℕ) → Between x u v lo hi → (s : Site) × Says x u v m s
   between-so lo hi b = ⊎-elim (λ l. (Site.Not Unscored.NoRepeat, (lo, hi, b, λ i p e f. none-is _ _ starts (omega arith) i (p, e, f)))) (λ l. ⊎-elim more (λ h. one (omega arith)) (lt-or-ge 1 (length (fittings x m lo hi)))) (lt-or-ge (length (fittings x m lo hi)) 1)
@@ -118,7 +110,7 @@ module _ (x u v m : List ℕ) where
       one : length (fittings x m lo hi) ≡ 1 → (s : Site) × Says x u v m s
       one l =
           let w = one-is _ _ starts l in
-          (Site.At (only (fittings x m lo hi)), (lo, hi, b, (w .0 .0, w .0 .1, (w .0 .2, λ j q d g. let same = w .1 j (q, d, g) in let o = alone-in lo hi _ _ _ (w .0 .2) j q d g same in (same, o .0, o .1)))))
+          (Site.At (only (fittings x m lo hi)), (lo, hi, b, (w .0 .0, w .0 .1, (w .0 .2, λ j q d g. let same = w .1 j (q, d, g) in let o = fits-alike x m lo hi _ _ _ (w .0 .2) j q d g same in (same, o .0, o .1)))))
 
   pub one-is-so : (s : Site) × Says x u v m s
   one-is-so = go (seats-so x u v)
@@ -136,7 +128,7 @@ module _ (x u v m : List ℕ) where
       → (1 ≤ i) × (i + length m ≤ suc (length x)) × (length x ≤ most) × (copies x i (length m) ≤ length x) × (take (length m) (drop (i - 1) x) ≡ m)
   site-inside i q =
       let s = told-if-so (Site.At i) .0 q in
-      let f = fitting-is x m (s .0) (s .1) i (fits-fitting x m (s .0) (s .1) i (s .3 .0) (s .3 .1) (s .3 .2 .0)) in
+      let f = fits-here x m (s .0) (s .1) i (s .3 .0) (s .3 .1) (s .3 .2 .0) in
       let n = fits-inside x m (s .0) (s .1) i _ _ f in
       let c : copies x i (length m) ≤ length m * copies x i (length m) = omega (arith, mul-le-mul-right (copies x i (length m)) (n .1)) in
       (n .0, omega (arith, n .3, n .4), between-inside x u v (s .0) (s .1) (s .2) .3, omega (arith, n .0, n .4, c), f .motif)
