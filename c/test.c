@@ -8,7 +8,7 @@
      test markers MARKERS < READS              the scores by the markers that the file MARKERS has for every read, and the motifs shown
      test tables TABLES < READS                every read's tables at the widths that the file TABLES has
      test calls                                what crates/run_calls prints, and the calls on empty slices that are null
-   Besides, no answer but three has a second value, in `indexes` each period is looked up, in `lists` each line is claimed, also with a copy more or less, and its motif taken, in `runs` each is looked at base by base, in `logs` the log is walked by the reader, in `primers` each primer is looked for on the other strand too, in `markers` each score is found again by the leading list, and in
+   Besides, no answer but three has a second value, in `indexes` each period is looked up, in `lists` each line is claimed, also with a copy more or less, and its motif taken, in `runs` each is looked at base by base, there and in `two_letters` beside the read's list, in `logs` the log is walked by the reader, in `primers` each primer is looked for on the other strand too, in `markers` each score is found again by the leading list, and in
    `tables` the replay of the read's own log must give the same table; what fails prints a line that no stored output has. All runs on a thread with as
    small a stack as docs/C.md says will do: a call that takes more ends the program. */
 #include "sorunggyeo.h"
@@ -115,15 +115,43 @@ static void look_at_run(size_t n, size_t a, size_t b, size_t p)
     expect(b == n || !has_period(a, b + 1, p), "and on its right");
 }
 
+static uint16_t maximal[SORUNGGYEO_MOST * SORUNGGYEO_RUN];
+
+/* a line of the list beside the runs: one counts it, and it lies whole in no other of its period */
+static void look_at_line(uint32_t i, uint32_t p, uint32_t e, size_t runs)
+{
+    size_t counting = 0, holding = 0;
+    for (const uint16_t *run = maximal; run < maximal + SORUNGGYEO_RUN * runs; run += SORUNGGYEO_RUN) {
+        if (run[2] != p) continue;
+        counting += run[0] <= i && i <= run[1] && (run[1] + 1u - i) / p == e;
+        holding += run[0] <= i && i + p * e - 1 <= run[1];
+    }
+    expect(e >= 2 && counting == 1 && holding == 1, "a repeat lies whole in one run of its period, and is counted to its end");
+}
+
+/* repeats and runs agree: each line is counted by a run, and there are as many lines as the runs count */
+static void look_at_both(size_t n, size_t runs)
+{
+    sorunggyeo_answer a = one(sorunggyeo_list(read, n, 0, list, LINES * SORUNGGYEO_LINE));
+    size_t counted = 0;
+    if (a.number != SORUNGGYEO_OK) return;
+    for (size_t k = 0; k < a.value; k++)
+        look_at_line(list[SORUNGGYEO_LINE * k], list[SORUNGGYEO_LINE * k + 1], list[SORUNGGYEO_LINE * k + 2], runs);
+    for (const uint16_t *run = maximal; run < maximal + SORUNGGYEO_RUN * runs; run += SORUNGGYEO_RUN)
+        for (uint32_t i = run[0]; i <= run[1]; i++) counted += (run[1] + 1u - i) / run[2] >= 2;
+    expect(counted == a.value, "there are as many repeats as the runs count");
+}
+
 static void print_runs(size_t n)
 {
-    sorunggyeo_answer a = one(sorunggyeo_runs(read, n, list, SORUNGGYEO_MOST * SORUNGGYEO_RUN));
+    sorunggyeo_answer a = one(sorunggyeo_runs(read, n, maximal, SORUNGGYEO_MOST * SORUNGGYEO_RUN));
     printf("read %zu runs %llu\n", n, (unsigned long long)a.value);
     for (size_t k = 0; k < a.value; k++) {
-        const uint16_t *run = list + SORUNGGYEO_RUN * k;
+        const uint16_t *run = maximal + SORUNGGYEO_RUN * k;
         printf("%u %u %u\n", run[0], run[1], run[2]);
         look_at_run(n, run[0], run[1], run[2]);
     }
+    look_at_both(n, a.value);
 }
 
 /* a number more of a sum in which a place that differs is seen (FNV-1a) */
@@ -153,10 +181,11 @@ static void two_letters(size_t n)
     uint32_t count = 0, sum = 2166136261u;
     for (uint32_t word = 0; word < 1u << n; word++) {
         for (size_t i = 0; i < n; i++) read[i] = word >> (n - 1 - i) & 1 ? 'C' : 'A';
-        size_t found = one(sorunggyeo_runs(read, n, list, SORUNGGYEO_MOST)).value;
+        size_t found = one(sorunggyeo_runs(read, n, maximal, SORUNGGYEO_MOST)).value;
         count += found;
-        for (size_t k = 0; k < SORUNGGYEO_RUN * found; k++) add(&sum, list[k]);
+        for (size_t k = 0; k < SORUNGGYEO_RUN * found; k++) add(&sum, maximal[k]);
         add(&sum, 0); /* after each word */
+        look_at_both(n, found);
     }
     printf("length %zu runs %u sum %u\n", n, count, sum);
 }

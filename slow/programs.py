@@ -3,7 +3,7 @@
 import re
 from itertools import groupby
 from reads import Dice, DNA, every, few_unread, fibonacci, known, partial
-from rules import (LIMIT, LINES, answer_claim, answer_find, answer_group_table, answer_index, answer_list, answer_list_index, answer_log, answer_replay, answer_runs,
+from rules import (LIMIT, LINES, agree, answer_claim, answer_find, answer_group_table, answer_index, answer_list, answer_list_index, answer_log, answer_replay, answer_runs,
                    answer_score, answer_turn, entries, flat, groups_of, lines_of_groups, log, lookup, motif, moves, printed, replay, repeats, runs, shown_part, small, table, top)
 
 def text(reads):
@@ -280,8 +280,9 @@ def view(x):
         text += ["width %d\n" % w, *view_width(names, [move for move in own if move[0] == w], part, [run for run in maximal if run[2] == w])]
         if part != lines_of_groups(names, w):
             differ.append(w)
-    last = "differ at width %d" % differ[0] if differ else "agree at every width"
-    return b"read %d %s\n" % (len(x), shown(x)) + ("".join(text) + "list and groups %s\n" % last).encode()
+    groups = "differ at width %d" % differ[0] if differ else "agree at every width"
+    text += ["list and groups %s\n" % groups, "repeats and runs %s\n" % ("agree" if agree(lines, maximal) else "differ")]
+    return b"read %d %s\n" % (len(x), shown(x)) + "".join(text).encode()
 
 def bench_view():
     dice = Dice(7019)

@@ -189,6 +189,17 @@ def house_place(house, k, m):
     lines = house.split(b"\n")
     return sum(len(line) + 1 for line in lines[:k]) if lines[k:k + 1] == [m] else None
 
+# document 02, item 8
+def lies_whole(line, maximal):
+    # the runs of its own period that hold the first and the last byte of a line
+    i, p, e = line
+    return [(a, b, q) for a, b, q in maximal if q == p and a <= i and i + p * e - 1 <= b]
+
+def agree(lines, maximal):
+    # both sentences, of a list and of runs: which (i, p, e) there are, and that each lies whole in exactly one run
+    counted = {(i, p, (b + 1 - i) // p) for a, b, p in maximal for i in range(a, b + 1)}
+    return set(lines) == {line for line in counted if line[2] >= 2} and all(len(lies_whole(line, maximal)) == 1 for line in lines)
+
 def front(numbers, buffer):
     return numbers + buffer[len(numbers):]
 

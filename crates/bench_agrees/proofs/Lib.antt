@@ -1,6 +1,5 @@
 pub mod Gaps
 pub mod Rows
-pub mod Lines
 pub mod Turns
 pub mod Agree
 pub mod Parts

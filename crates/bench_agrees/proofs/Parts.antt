@@ -13,7 +13,7 @@ use Rattle.words.specs.Range.{gather}
 use Rattle.words.specs.Rows.{rows, cell, part}
 use Rattle.words.proofs.Tests.{lt-or-ge}
 use Rattle.words.proofs.Ranges.{gather-parts, gather-more}
-use Rattle.words.proofs.Rows.{Full, rows-none, rows-times, rows-append}
+use Rattle.words.proofs.Rows.{Full, rows-none, rows-times, rows-append, full-append, full-gather}
 use Rattle.words.proofs.Searches.{Missed, first-ended, first-hit}
 use Rattle.bench_agrees.specs.Parts.{differs, partEnd, partFrom}
 use Rattle.bench_agrees.proofs.Rows.{differs-yes, differs-no}
@@ -42,9 +42,6 @@ module _ (c j : ℕ) (inside : j < c) where
   rows-joined : (l m : List ℕ) → Full c l → rows c (l ++ m) ≡ rows c l + rows c m
   rows-joined l m f = rows-append c (omega (arith, inside)) l m f
 
-  full-joined : (l m : List ℕ) → Full c l → Full c m → Full c (l ++ m)
-  full-joined l m a b = rw (length-append l m, rows-joined l m a) (omega (arith, a, b))
-
   cell-left : (l m : List ℕ) (k : ℕ) → Full c l → k < rows c l → cell c (l ++ m) k j ≡ cell c l k j
   unfolding cell
   cell-left l m k f h = List·getD-append l m 0 (c * k + j) (omega (arith, f, inside, mul-le-mul-left c h))
@@ -66,7 +63,7 @@ module _ (c j : ℕ) (inside : j < c) where
   keyed-append : (w : ℕ) (l m : List ℕ) → Keyed w l → Keyed w m → Keyed w (l ++ m)
   keyed-append w l m a b =
       record {
-        full = full-joined l m (a .full) (b .full);
+        full = full-append c (omega (arith, inside)) l m (a .full) (b .full);
         key = λ k h.
             ⊎-elim
             (λ (d : k < rows c l). cell-left l m k (a .full) d ∙ a .key k d)
@@ -86,9 +83,7 @@ module _ (c j : ℕ) (inside : j < c) where
 
   module _ (f : ℕ → List ℕ) (own : (w : ℕ) → Keyed w (f w)) where
     gather-full : (d i : ℕ) → Full c (gather f d i)
-    unfolding gather
-    gather-full zero i = keyed-none i .full
-    gather-full (suc d) i = full-joined (f i) (gather f d (suc i)) (own i .full) (gather-full d (suc i))
+    gather-full d i = full-gather c (omega (arith, inside)) f d i (λ k a b. own k .full)
 
     -- the rows of the widths from i on have no smaller one
     gather-low : (d i k : ℕ) → k < rows c (gather f d i) → i ≤ cell c (gather f d i) k j

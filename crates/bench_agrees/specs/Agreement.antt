@@ -1,9 +1,8 @@
 -- The lines that the groups of width p give, read off their table t alone: there is no read here.
-use Prim.Native.Nat.{ℕ, suc, _+_, _*_, _≤_}
-use mathlib.Core.Path.{_≡_}
-use mathlib.Core.Bool.{Bool, _&&_, not, cond}
+use Prim.Native.Nat.{ℕ, suc, _+_, _*_}
+use mathlib.Core.Bool.{Bool, not, cond}
 use mathlib.Core.List.{List, []}
-use lib.ListN.{length, drop}
+use lib.ListN.{length}
 use lib.Dec.{eqb}
 use Rattle.words.specs.Range.{first, gather}
 use Rattle.words.specs.Reads.{same}
@@ -29,8 +28,3 @@ linesIn t p = gather (lineIn t p) (length t) 1
 -- list and groups agree: these are exactly the list's lines of the period, in order
 unfoldable pub agreesAt : List ℕ → ℕ → List ℕ → Bool
 agreesAt t p lines = same (linesIn t p) lines
-
--- one position more, from i to i + 1: what is left to compare, the lines of d positions from i + 1 on, decides as before
-pub record Onward (t : List ℕ) (p i : ℕ) (lines : List ℕ) (ok : Bool) (at : ℕ) (ok′ : Bool) (at′ : ℕ) : Type 0 where
-  pub inside : at′ ≤ length lines
-  pub left : (d : ℕ) → ok && same (gather (lineIn t p) (suc d) i) (drop at lines) ≡ ok′ && same (gather (lineIn t p) d (suc i)) (drop at′ lines)

@@ -6,15 +6,18 @@ ghost use lib.ListN.{length};
 ghost use Rattle.words.specs.Rows.{rows};
 ghost use Rattle.words.specs.Groups.{gap as distance};
 ghost use Rattle.bench_links.specs.Links.{Nexts};
+ghost use Rattle.row_matches.specs.Matching.{Passes};
 ghost use Rattle.bench_agrees.specs.Parts.{partEnd, partFrom};
-ghost use Rattle.bench_agrees.specs.Agreement.{copiesIn, agreesAt, Onward};
+ghost use Rattle.bench_agrees.specs.Agreement.{copiesIn, lineIn, agreesAt};
 use bench_links::link;
 use bench_links::next_of;
 use row_cells::cell;
 use row_cells::count;
 use row_cells::part;
-use row_lines::is_line;
-use row_lines::line_size;
+use row_matches::Matched;
+use row_matches::begin;
+use row_matches::ended;
+use row_matches::pass_line;
 use slots::wide;
 
 // the first row of c numbers, from a row on, whose number j is not w: where a log's width ends, or a list's period
@@ -68,28 +71,16 @@ fn copies(table: &[u16], after: &[u16], p: usize, i: usize) -> usize
     k + 1
 }
 
-// how far list and groups agree: `ok` until they differ, `at` numbers of the lines passed
-struct Agreed {
-    ok: bool,
-    at: usize,
-}
-
-// one position more
-fn agree_one(table: &[u16], after: &[u16], p: usize, i: usize, lines: &[u16], a: Agreed) -> Agreed
-    requires { ⌜ (1 ≤ i) × (i ≤ length (now table)) × Nexts (now table) (now after) × (a .at ≤ length (now lines)) ⌝ }
-    ensures { λ r. ⌜ Onward (now (table .entry)) p i (now (lines .entry)) (a .ok) (a .at) (r .ok) (r .at) ⌝ }
+// one position more: its line, if it is a start
+fn agree_one(table: &[u16], after: &[u16], p: usize, i: usize, lines: &[u16], m: Matched) -> Matched
+    requires { ⌜ (1 ≤ i) × (i ≤ length (now table)) × Nexts (now table) (now after) × (m .at ≤ length (now lines)) ⌝ }
+    ensures { λ r. ⌜ Passes (lineIn (now (table .entry)) p i) (now (lines .entry)) m r ⌝ }
 {
-    let at = a.at;
     if gap(table, after, i) != p {
-        return a;
+        return m;
     }
-    if is_line(lines, at, i, p, copies(table, after, p, i)) {
-        return Agreed {
-            ok: a.ok,
-            at: at + line_size(),
-        };
-    }
-    Agreed { ok: false, at }
+    let e = copies(table, after, p, i);
+    pass_line(lines, m, i, p, e)
 }
 
 // all positions, by their links
@@ -97,16 +88,13 @@ fn agree_all(table: &[u16], after: &[u16], p: usize, lines: &[u16]) -> bool
     requires { ⌜ Nexts (now table) (now after) ⌝ }
     ensures { λ r. ⌜ r ≡ agreesAt (now (table .entry)) p (now (lines .entry)) ⌝ }
 {
-    let mut a = Agreed { ok: true, at: 0 };
+    let mut m = begin();
     let mut i = 0;
     while i < table.len() {
-        a = agree_one(table, after, p, i + 1, lines, a);
+        m = agree_one(table, after, p, i + 1, lines, m);
         i += 1;
     }
-    if a.ok {
-        return a.at == lines.len();
-    }
-    false
+    ended(lines, m)
 }
 
 // are these exactly the lines that the groups of width p give?

@@ -5,8 +5,11 @@ ghost use lib.ListN.{length, take};
 ghost use Rattle.words.specs.Reads.{most};
 ghost use Rattle.words.specs.Lists.{lineSize, lines, lineCount, inMode};
 ghost use Rattle.bench_shows.specs.Collecting.{Roomy, Collects};
+ghost use Rattle.bench_widths.specs.Reaching.{Own};
 ghost use Rattle.bench_reads.specs.Views.{readView};
 ghost use Rattle.bench_reads.specs.Steps.{Viewed};
+use bench_runs::runs_agree;
+use bench_shows::collect_accord;
 use bench_shows::collect_head;
 use bench_shows::collect_refusal;
 use bench_shows::collect_verdict;
@@ -14,9 +17,32 @@ use bench_shows::first_differ;
 use bench_widths::show_widths;
 use bench_widths::widths;
 use row_lines::line_size;
+use row_lines::room;
 use row_moves::move_size;
 use row_runs::run_size;
 use text_outs::Out;
+
+// shows a read from its own log, list and runs
+fn show_lists(
+    read: &[u8],
+    log: &[u16],
+    list: &[u16],
+    runs: &[u16],
+    buf: &mut [u8],
+    start: Out,
+) -> Out
+    requires { ⌜ Own (now read) (now log) (now list) (now runs) × Roomy (now buf) (start .used) ⌝ }
+    ensures { λ r. ⌜ Collects (now (buf .entry)) start (readView (now (read .entry))) (now (buf .exit)) r ⌝ }
+{
+    let o = collect_head(read, buf, start);
+    let p = show_widths(read, log, list, runs, buf, o);
+    let whole = p.listed == room(list);
+    let out = p.out;
+    let differ = first_differ(p.differ, whole, widths(read.len()) + 1);
+    let o = collect_verdict(differ, buf, out);
+    let agree = runs_agree(list, runs);
+    collect_accord(agree, buf, o)
+}
 
 // shows a read whose list of `count` lines is made; the log has room for that of any read, and no read has more runs than lines
 fn show_read(read: &[u8], list: &[u16], count: usize, buf: &mut [u8], start: Out) -> Out
@@ -31,15 +57,7 @@ fn show_read(read: &[u8], list: &[u16], count: usize, buf: &mut [u8], start: Out
     let maximal = call_answers::runs_listed(call_runs::runs(read, &mut runs));
     let ran = run_size() * maximal.value as usize;
     let size = line_size() * count;
-    let o = collect_head(read, buf, start);
-    let p = show_widths(read, &log[..moves], &list[..size], &runs[..ran], buf, o);
-    let agree = p.listed == count;
-    let out = p.out;
-    collect_verdict(
-        first_differ(p.differ, agree, widths(read.len()) + 1),
-        buf,
-        out,
-    )
+    show_lists(read, &log[..moves], &list[..size], &runs[..ran], buf, start)
 }
 
 // shows the read of a line of `len` bytes, or says why its list was refused; the list has room for 10,000 lines

@@ -10,7 +10,7 @@ ghost use Rattle.words.specs.Lists.{lineSize};
 ghost use Rattle.words.specs.Moves.{moveSize};
 ghost use Rattle.words_runs.specs.Runs.{runSize};
 ghost use Rattle.text_answers.specs.Texts.{refusedText};
-ghost use Rattle.text_views.specs.Views.{widthText, headText, verdictText};
+ghost use Rattle.text_views.specs.Views.{widthText, headText, verdictText, accordText};
 ghost use Rattle.bench_shows.specs.Collecting.{Roomy, Collects};
 ghost use Rattle.bench_shows.specs.Places.{Brief, movesFrom, linesFrom, runsFrom, firstDiffer, Shown};
 use bench_agrees::part_from;
@@ -62,7 +62,7 @@ fn collect_width(
     }
 }
 
-// collects the last line, by the first width at which list and groups differ, 0 for none
+// collects the last line but one, by the first width at which list and groups differ, 0 for none
 pub fn collect_verdict(w: usize, buf: &mut [u8], start: Out) -> Out
     requires { ⌜ Roomy (now buf) (start .used) ⌝ }
     ensures { λ r. ⌜ Collects (now (buf .entry)) start (verdictText w) (now (buf .exit)) r ⌝ }
@@ -70,6 +70,20 @@ pub fn collect_verdict(w: usize, buf: &mut [u8], start: Out) -> Out
     let o = text_outs::room(buf, 64, start);
     let at = o.used;
     let end = text_views::put_verdict(buf, at, w);
+    Out {
+        used: end,
+        ok: o.ok,
+    }
+}
+
+// collects the last line: do repeats and runs agree?
+pub fn collect_accord(agree: bool, buf: &mut [u8], start: Out) -> Out
+    requires { ⌜ Roomy (now buf) (start .used) ⌝ }
+    ensures { λ r. ⌜ Collects (now (buf .entry)) start (accordText agree) (now (buf .exit)) r ⌝ }
+{
+    let o = text_outs::room(buf, 64, start);
+    let at = o.used;
+    let end = text_views::put_accord(buf, at, agree);
     Out {
         used: end,
         ok: o.ok,

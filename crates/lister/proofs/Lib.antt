@@ -7,4 +7,5 @@ pub mod Claims
 pub mod Indexes
 pub mod Unread
 pub mod Repetitions
+pub mod Agreement
 pub mod Primers

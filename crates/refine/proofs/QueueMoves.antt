@@ -12,7 +12,7 @@ use Rattle.words.specs.Range.{gather}
 use Rattle.words.specs.Reads.{at}
 use Rattle.words.specs.Groups.{Least}
 use Rattle.words.specs.Moves.{moveOf, moveSize, moveAt, movesOf, movesIn, moveCount}
-use Rattle.words.proofs.Ranges.{gather-same, append-nil}
+use Rattle.words.proofs.Ranges.{gather-same, gather-along, append-nil}
 use Rattle.words.proofs.Sums.{sum-same, sum-const, length-gather, count-le}
 use Rattle.words.proofs.MoveLayout.{move-length}
 use Rattle.words.proofs.Room.{moves-in-length}
@@ -34,12 +34,6 @@ module _ (g : ℕ → List ℕ) where
   spread-gather f zero j = refl
   spread-gather f (suc d) j = spread-append (f j) (gather f d (suc j)) ∙ ap (λ (v : List ℕ). spread (f j) ++ v) (spread-gather f d (suc j))
 
--- a range that begins one later
-gather-shift : (f : ℕ → List ℕ) (d j : ℕ) → gather f d (suc j) ≡ gather (λ k. f (suc k)) d j
-unfolding gather
-gather-shift f zero j = refl
-gather-shift f (suc d) j = ap (λ (v : List ℕ). f (suc j) ++ v) (gather-shift f d (suc j))
-
 at-next : (i : ℕ) (l : List ℕ) (q : ℕ) → 1 ≤ q → at (i ∷ l) (suc q) ≡ at l q
 unfolding at
 at-next i l q h = let e : suc q - 1 ≡ suc (q - 1) = omega arith in ap (λ (k : ℕ). getD (i ∷ l) k 0) e
@@ -50,8 +44,7 @@ spread-places g [] = refl
 spread-places g (i ∷ l) =
     ap (λ (v : List ℕ). g i ++ v)
     (spread-places g l
-    ∙ gather-same (λ q. g (at l q)) (λ q. g (at (i ∷ l) (suc q))) (length l) 1 (λ q a b. ap g (sym (at-next i l q a)))
-    ∙ sym (gather-shift (λ q. g (at (i ∷ l) q)) (length l) 1))
+    ∙ gather-along (λ q. g (at l q)) (λ q. g (at (i ∷ l) q)) (length l) 1 2 (λ k b. ap g (sym (at-next i l (1 + k) (omega arith))) ∙ ap (λ (v : ℕ). g (at (i ∷ l) v)) (omega arith)))
     ∙ ap (λ (v : ℕ). g v ++ gather (λ q. g (at (i ∷ l) q)) (length l) 2) (unfold at in refl)
 
 module _ (w : ℕ) (t f : List ℕ) where

@@ -1,5 +1,5 @@
 -- What is shown of a read tells the read: two reads that look alike are the same. Assumes nothing.
-use Prim.Native.Nat.{ℕ, zero, suc, _/_, _%_, _^_, _≤_, _<_}
+use Prim.Native.Nat.{ℕ, suc, _+_, _/_, _%_, _^_, _≤_, _<_}
 use mathlib.Core.Path.{_≡_, refl, sym, ap, _∙_}
 use mathlib.Core.Logic.{_⊎_, inl, inr, ⊎-elim}
 use mathlib.Core.Bool.{true, false}
@@ -13,19 +13,17 @@ use Rattle.io.specs.Digits.{glyph}
 use Rattle.words.specs.Range.{gather}
 use Rattle.words.specs.Logs.{within}
 use Rattle.words.proofs.Tests.{either, lt-or-ge, clash}
+use Rattle.words.proofs.Ranges.{gather-along}
 use Rattle.text_puts.specs.Ascii.{ascii}
 use Rattle.text_bytes.specs.Bytes.{backslash, plainByte, digitsText, byteText, bytesText}
 use Rattle.text_bytes.proofs.Bytes.{byte-itself, byte-digits}
 
--- the texts of a range from 1 on are those of the next numbers from 0 on
-gather-shift : (f : ℕ → List ℕ) (d j : ℕ) → gather f d (suc j) ≡ gather (λ k. f (suc k)) d j
-unfolding gather
-gather-shift f zero j = refl
-gather-shift f (suc d) j = ap (λ (l : List ℕ). f (suc j) ++ l) (gather-shift f d (suc j))
-
 bytes-first : (b : ℕ) (x : List ℕ) → bytesText (b ∷ x) ≡ byteText b ++ bytesText x
 unfolding bytesText gather
-bytes-first b x = ap (λ (l : List ℕ). byteText b ++ l) (gather-shift (λ k. byteText (getD (b ∷ x) k 0)) (length x) 0)
+bytes-first b x =
+    ap (λ (l : List ℕ). byteText b ++ l)
+    (gather-along (λ k. byteText (getD (b ∷ x) k 0)) (λ k. byteText (getD x k 0)) (length x) 1 0
+    (λ k l. let e : 1 + k ≡ suc (0 + k) = omega arith in ap (λ (v : ℕ). byteText (getD (b ∷ x) v 0)) e))
 
 -- two digits that look alike
 glyph-told : (d e : ℕ) → d < 16 → e < 16 → glyph d ≡ glyph e → d ≡ e

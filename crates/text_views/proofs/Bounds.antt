@@ -2,7 +2,7 @@
 use Prim.Native.Nat.{ℕ, _+_, _*_, _^_, _≤_, _<_}
 use mathlib.Core.Path.{_≡_}
 use mathlib.Core.Logic.{⊎-elim}
-use mathlib.Core.Bool.{true, false}
+use mathlib.Core.Bool.{Bool, true, false}
 use mathlib.Core.List.{List}
 use native.Mathlib.Omega.{arith}
 use lib.ListN.{length, getD, drop, length-append, length-take}
@@ -23,7 +23,7 @@ use Rattle.text_puts.proofs.Bounds.{gather-bound, numbers-bound}
 use Rattle.text_bytes.proofs.Bytes.{bytes-bound}
 use Rattle.text_groups.proofs.Bounds.{groups-bound, alone-bound}
 use Rattle.text_moves.proofs.Bounds.{moves-bound}
-use Rattle.text_views.specs.Views.{rowText, rowsText, widthText, widthRoom, headText, verdictText}
+use Rattle.text_views.specs.Views.{rowText, rowsText, widthText, widthRoom, headText, verdictText, accordText}
 
 row-short : (c : ℕ) (l : List ℕ) (k : ℕ) → length (row c l k) ≤ c
 unfolding row
@@ -59,7 +59,7 @@ width-bound w t moves lines runs h few a b d =
       rows-bound (ascii "  run ") runSize runs (omega arith) run-few d,
     ))
 
--- the first line and the last
+-- the first line and the last two
 pub head-bound : (x : List ℕ) → length x < 2 ^ 64 → length (headText x) ≤ 4 * length x + 27
 unfolding headText ascii
 head-bound x h = simp length-append (omega (arith, number-length (length x) 20 space (omega arith) (omega arith), bytes-bound x))
@@ -71,3 +71,8 @@ verdict-bound w h =
     (λ (t : eqb w 0 ≡ true). rw t (omega arith))
     (λ (t : eqb w 0 ≡ false). rw t (omega (arith, number-length w 20 newline (omega arith) (omega arith))))
     (either (eqb w 0))
+
+pub accord-bound : (b : Bool) → length (accordText b) ≤ 64
+unfolding accordText ascii
+accord-bound true = omega arith
+accord-bound false = omega arith

@@ -1,4 +1,4 @@
--- The last line, in the case that list and groups agree and in the case that they differ. Assumes nothing.
+-- The last line but one, in the case that list and groups agree and in the case that they differ. Assumes nothing.
 use Prim.Native.Nat.{ℕ}
 use mathlib.Core.Path.{_≡_}
 use mathlib.Core.Logic.{_≢_}

@@ -1,6 +1,6 @@
--- The bench view: the text of one width, from the table t of its groups, its moves, its lines and its runs; the first line of a read's view and the last.
+-- The bench view: the text of one width, from the table t of its groups, its moves, its lines and its runs; the first line of a read's view and the last two.
 use Prim.Native.Nat.{ℕ, _+_, _*_}
-use mathlib.Core.Bool.{cond}
+use mathlib.Core.Bool.{Bool, cond}
 use mathlib.Core.List.{List, _++_}
 use lib.ListN.{length}
 use lib.Dec.{eqb}
@@ -37,7 +37,11 @@ widthRoom n moves lines runs = 27 * (n + moves) + (9 + 6 * widest) * (lines + ru
 unfoldable pub headText : List ℕ → List ℕ
 headText x = ascii "read " ++ numberText (length x) space ++ bytesText x ++ ascii "\n"
 
--- the last line, by the first width at which list and groups differ, 0 for none
+-- the last line but one, by the first width at which list and groups differ, 0 for none
 unfoldable pub verdictText : ℕ → List ℕ
 verdictText w =
     cond (eqb w 0) (ascii "list and groups agree at every width\n") (ascii "list and groups differ at width " ++ numberText w newline)
+
+-- the last line: do repeats and runs agree?
+unfoldable pub accordText : Bool → List ℕ
+accordText agree = cond agree (ascii "repeats and runs agree\n") (ascii "repeats and runs differ\n")

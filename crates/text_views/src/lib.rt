@@ -1,9 +1,9 @@
 // The text of the bench view: of one width, from its table of groups, its moves, and the list's lines and the runs of that period; the first line of a read and the
-// last. Each function promises its text byte by byte, the place after it, and that the rest of the buffer is as it was.
+// last two. Each function promises its text byte by byte, the place after it, and that the rest of the buffer is as it was.
 ghost use Prim.Native.Nat.{_≤_, _<_};
 ghost use Rattle.words.specs.Rows.{rows};
 ghost use Rattle.text_puts.specs.Puts.{Room, Puts};
-ghost use Rattle.text_views.specs.Views.{rowText, rowsText, widthText, headText, verdictText};
+ghost use Rattle.text_views.specs.Views.{rowText, rowsText, widthText, headText, verdictText, accordText};
 use row_cells::count;
 use row_cells::part;
 use row_lines::line_size;
@@ -72,7 +72,7 @@ pub fn put_head(buf: &mut [u8], at: usize, read: &[u8]) -> usize
     put_word(buf, next, b"\n")
 }
 
-// the last line, by the first width at which list and groups differ, 0 for none
+// the last line but one, by the first width at which list and groups differ, 0 for none
 pub fn put_verdict(buf: &mut [u8], at: usize, w: usize) -> usize
     requires { ⌜ Room (now buf) at (verdictText w) ⌝ }
     ensures { λ r. ⌜ Puts (now (buf .entry)) at (verdictText w) (now (buf .exit)) r ⌝ }
@@ -82,4 +82,15 @@ pub fn put_verdict(buf: &mut [u8], at: usize, w: usize) -> usize
     }
     let next = put_word(buf, at, b"list and groups differ at width ");
     put_number(buf, next, w as u64, b'\n')
+}
+
+// the last line: do repeats and runs agree?
+pub fn put_accord(buf: &mut [u8], at: usize, agree: bool) -> usize
+    requires { ⌜ Room (now buf) at (accordText agree) ⌝ }
+    ensures { λ r. ⌜ Puts (now (buf .entry)) at (accordText agree) (now (buf .exit)) r ⌝ }
+{
+    if agree {
+        return put_word(buf, at, b"repeats and runs agree\n");
+    }
+    put_word(buf, at, b"repeats and runs differ\n")
 }

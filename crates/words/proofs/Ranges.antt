@@ -185,6 +185,15 @@ gather-parts f (suc d) e j =
     ∙ ap (λ (l : List ℕ). f j ++ l) (gather-parts f d e (suc j) ∙ ap (λ (v : ℕ). gather f d (suc j) ++ gather f e v) (omega arith))
     ∙ sym (append-assoc (f j) (gather f d (suc j)) (gather f e (j + suc d)))
 
+-- two ranges, number by number
+pub gather-along : (f g : ℕ → List ℕ) (d i j : ℕ) → ((k : ℕ) → k < d → f (i + k) ≡ g (j + k)) → gather f d i ≡ gather g d j
+unfolding gather
+gather-along f g zero i j h = refl
+gather-along f g (suc d) i j h =
+    let here : f i ≡ g j = ap f (omega arith) ∙ h 0 (omega arith) ∙ ap g (omega arith) in
+    ap (λ (l : List ℕ). l ++ gather f d (suc i)) here
+    ∙ ap (λ (l : List ℕ). g j ++ l) (gather-along f g d (suc i) (suc j) (λ k l. ap f (omega arith) ∙ h (suc k) (omega arith) ∙ ap g (omega arith)))
+
 -- a range whose rest has nothing
 pub gather-stop : (f : ℕ → List ℕ) (d e j : ℕ) → d ≤ e → ((k : ℕ) → j + d ≤ k → k < j + e → f k ≡ []) → gather f e j ≡ gather f d j
 gather-stop f d e j l h =

@@ -1,19 +1,19 @@
 -- Lists of rows: where a row stands, and rows whose keys rise, which is how the lines of a list and the moves of a log are in order.
 -- Assumes nothing.
-use Prim.Native.Nat.{ℕ, zero, suc, _+_, _*_, _/_, _%_, _≤_, _<_}
+use Prim.Native.Nat.{ℕ, zero, suc, _+_, _-_, _*_, _/_, _%_, _≤_, _<_}
 use mathlib.Core.Path.{_≡_, sym, ap, subst, _∙_}
-use mathlib.Core.Logic.{⊎-elim}
+use mathlib.Core.Logic.{_⊎_, inl, inr, ⊎-elim}
 use mathlib.Core.Bool.{_&&_}
 use mathlib.Core.List.{List, [], _++_, append-assoc}
 use native.Mathlib.Omega.{arith}
 use native.Mathlib.Nat.{add-div-left, mul-div-right, mul-add-div, mul-mod-right, div-add-mod, zero-div, eq-or-lt-of-le, mul-le-mul-left}
 use lib.ListN.{length, getD, take, drop, length-append, length-drop}
-use lib.Seq.{getD-take, getD-drop, take-at, take-append-le, drop-append-le, drop-append-add}
+use lib.Seq.{getD-take, getD-drop, length-take-le, take-at, take-append-le, drop-append-le, drop-append-add}
 use lib.Dec.{eqb}
 use borrow.Author.Tests.{eqb-true, eq-eqb}
 use Rattle.words.specs.Range.{gather}
 use Rattle.words.specs.Rows.{rows, row, cell}
-use Rattle.words.proofs.Tests.{and-left, and-right, and-both, same-test}
+use Rattle.words.proofs.Tests.{and-left, and-right, and-both, same-test, lt-or-ge}
 use Rattle.words.proofs.Ranges.{append-nil}
 
 module _ (c : ℕ) where
@@ -56,6 +56,11 @@ module _ (c : ℕ) where
   pub rows-times : (l : List ℕ) (m : ℕ) → 1 ≤ c → length l ≡ c * m → rows c l ≡ m
   unfolding rows
   rows-times l m p h = rw h (mul-div-right m p)
+
+  -- a row that is there has c numbers
+  pub row-length : (l : List ℕ) (k : ℕ) → k < rows c l → length (row c l k) ≡ c
+  unfolding row rows
+  row-length l k h = length-take-le c (drop (c * k) l) (rw (length-drop (c * k) l) (omega (arith, mul-le-mul-left c h, div-add-mod (length l) c)))
 
   -- f rows are the whole list if and only if it has f rows and nothing is left over
   pub whole-test : (l : List ℕ) (f : ℕ) → 1 ≤ c → eqb (c * f) (length l) ≡ eqb f (rows c l) && eqb (length l % c) 0
@@ -140,9 +145,23 @@ module _ (c : ℕ) where
     pub has-one : (r : List ℕ) → length r ≡ c → Has r r
     has-one r h = (0, omega (arith, rows-times r 1 one (omega (arith, h))), ap (λ (l : List ℕ). row c l 0) (sym (append-nil r)) ∙ row-here r [] h)
 
+    -- and there is no other in it
+    pub has-only : (r q : List ℕ) → length r ≡ c → Has r q → r ≡ q
+    has-only r q h w =
+        let e : w .0 ≡ 0 = omega (arith, w .1, rows-times r 1 one (omega (arith, h))) in
+        sym (ap (λ (l : List ℕ). row c l 0) (sym (append-nil r)) ∙ row-here r [] h) ∙ ap (row c r) (sym e) ∙ w .2
+
     pub rows-append : (l m : List ℕ) → Full l → rows c (l ++ m) ≡ rows c l + rows c m
     unfolding rows
     rows-append l m h = ap (λ (v : ℕ). v / c) (length-append l m ∙ ap (λ (v : ℕ). v + length m) h) ∙ mul-add-div one (rows c l) (length m)
+
+    pub full-append : (l m : List ℕ) → Full l → Full m → Full (l ++ m)
+    full-append l m h g = rw (length-append l m, rows-append l m h) (omega (arith, h, g))
+
+    pub full-gather : (f : ℕ → List ℕ) (d j : ℕ) → ((k : ℕ) → j ≤ k → k < j + d → Full (f k)) → Full (gather f d j)
+    unfolding gather
+    full-gather f zero j h = rw rows-none (omega arith)
+    full-gather f (suc d) j h = full-append (f j) (gather f d (suc j)) (h j (omega arith) (omega arith)) (full-gather f d (suc j) (λ k a b. h k (omega arith) (omega arith)))
 
     has-left : (l m r : List ℕ) → Full l → Has l r → Has (l ++ m) r
     has-left l m r h w =
@@ -161,3 +180,24 @@ module _ (c : ℕ) where
         (λ q. has-left (f j) (gather f d (suc j)) r (h j (omega arith) (omega arith)) (subst (λ (v : ℕ). Has (f v) r) (sym q) w))
         (λ l. has-right (f j) (gather f d (suc j)) r (h j (omega arith) (omega arith)) (has-gather f r d (suc j) m l (omega arith) (λ k e g. h k (omega arith) (omega arith)) w))
         (eq-or-lt-of-le a)
+
+    -- a row of two lists is a row of one of them
+    has-either : (l m r : List ℕ) → Full l → Has (l ++ m) r → Has l r ⊎ Has m r
+    has-either l m r h w =
+        let k = w .0 in
+        ⊎-elim
+        (λ b. inl (k, b, sym (row-before l m k (omega (arith, h, mul-le-mul-left c b))) ∙ w .2))
+        (λ b.
+        let e : k ≡ rows c l + (k - rows c l) = omega arith in
+        inr (k - rows c l, omega (arith, w .1, rows-append l m h), sym (row-after l m (rows c l) (k - rows c l) h) ∙ ap (row c (l ++ m)) (sym e) ∙ w .2))
+        (lt-or-ge k (rows c l))
+
+    -- a row of the whole is a row of one list of the range
+    pub gather-has : (f : ℕ → List ℕ) (r : List ℕ) (d j : ℕ) → ((k : ℕ) → j ≤ k → k < j + d → Full (f k)) → Has (gather f d j) r → (m : ℕ) × (j ≤ m) × (m < j + d) × Has (f m) r
+    unfolding gather
+    gather-has f r zero j h w = absurd (omega (arith, w .1, rows-none))
+    gather-has f r (suc d) j h w =
+        ⊎-elim
+        (λ u. (j, omega arith, omega arith, u))
+        (λ u. let v = gather-has f r d (suc j) (λ k a b. h k (omega arith) (omega arith)) u in (v .0, omega (arith, v .1), omega (arith, v .2), v .3))
+        (has-either (f j) (gather f d (suc j)) r (h j (omega arith) (omega arith)) w)

@@ -6,7 +6,7 @@ use mathlib.Core.List.{List, [], _∷_}
 use lib.ListN.{length}
 use lib.Dec.{leb, ltb, eqb}
 use Rattle.words.specs.Range.{first, every}
-use Rattle.words.specs.Rows.{rows}
+use Rattle.words.specs.Rows.{rows, cell}
 use Rattle.words.specs.ByPeriod.{rowsAt, byPeriod}
 use Rattle.words.specs.Reads.{letter}
 
@@ -58,6 +58,16 @@ runSize = 3
 -- which number of a run is its period
 unfoldable pub runPeriodCell : ℕ
 runPeriodCell = 2
+
+-- the start, the end and the period of run k of a list, counted from 0
+unfoldable pub runStart : List ℕ → ℕ → ℕ
+runStart l k = cell runSize l k 0
+
+unfoldable pub runEnd : List ℕ → ℕ → ℕ
+runEnd l k = cell runSize l k 1
+
+unfoldable pub runPeriod : List ℕ → ℕ → ℕ
+runPeriod l k = cell runSize l k runPeriodCell
 
 -- is there a run of this period and start? It can end nowhere but where the period stops
 unfoldable pub runBegins : List ℕ → ℕ → ℕ → Bool

@@ -1,6 +1,6 @@
--- `bench_reads::show_read` meets its contract: the first line, the widths and the last line, which finds that list and groups agree. Assumes nothing.
+-- `bench_reads::show_read` meets its contract: the log and the runs of the read are made, whole. Assumes nothing.
 use Prim.Native.Nat.{ℕ, _*_, _≤_}
-use mathlib.Core.Path.{_≡_, sym, ap, _∙_}
+use mathlib.Core.Path.{_≡_, sym, ap}
 use native.Mathlib.Omega.{arith}
 use lib.ListN.{length, take, length-replicate}
 use lib.Seq.{length-take-le}
@@ -8,11 +8,7 @@ use borrow.Author.Needs.{needs}
 use Rattle.words.specs.Moves.{log}
 use Rattle.words_runs.specs.Runs.{runs}
 use Rattle.call_answers.specs.declared.Answer.{Answer as Plain}
-use Rattle.bench_reads.specs.Views.{readView}
-use Rattle.bench_shows.proofs.Collecting.{collects-join}
-use Rattle.bench_widths.proofs.Reaching.{widths-few}
 use Rattle.bench_reads.proofs.Made.{log-room, runs-room, log-whole, runs-whole}
-use Rattle.bench_reads.proofs.Verdict.{taken-size, verdict-agrees}
 use Rattle.bench_reads.proofs.show_read.Statement.{statement}
 use Rattle.bench_reads.proofs.show_read.Tie as tie
 
@@ -48,58 +44,27 @@ mul-size : tie.Need-mul-size
 mul-size c = omega (arith, lines-inside c)
 
 array-share-prefix-log : tie.Need-array-share-prefix-log
-array-share-prefix-log c = moves-made (c .before .before .before .before .before .before .before .before .before .before) .1
+array-share-prefix-log c = moves-made (c .before .before .before .before .before .before) .1
 
-slice-aggregate-show-widths : tie.Need-slice-aggregate-show-widths
-slice-aggregate-show-widths c = sym (length-take-le _ _ (moves-made (c .before .before .before .before .before .before .before .before .before .before .before) .1))
+slice-aggregate-show-lists : tie.Need-slice-aggregate-show-lists
+slice-aggregate-show-lists c = sym (length-take-le _ _ (moves-made (c .before .before .before .before .before .before .before) .1))
 
-slice-aggregate-show-widths-2 : tie.Need-slice-aggregate-show-widths-2
-slice-aggregate-show-widths-2 c = sym (length-take-le _ _ (lines-inside (c .before .before .before .before .before .before)))
+slice-aggregate-show-lists-2 : tie.Need-slice-aggregate-show-lists-2
+slice-aggregate-show-lists-2 c = sym (length-take-le _ _ (lines-inside (c .before .before)))
 
 array-share-prefix-runs : tie.Need-array-share-prefix-runs
-array-share-prefix-runs c = runs-made (c .before .before .before .before .before .before .before) .1
+array-share-prefix-runs c = runs-made (c .before .before .before) .1
 
-slice-aggregate-show-widths-3 : tie.Need-slice-aggregate-show-widths-3
-slice-aggregate-show-widths-3 c = sym (length-take-le _ _ (runs-made (c .before .before .before .before .before .before .before .before) .1))
+slice-aggregate-show-lists-3 : tie.Need-slice-aggregate-show-lists-3
+slice-aggregate-show-lists-3 c = sym (length-take-le _ _ (runs-made (c .before .before .before .before) .1))
 
-show-widths-requires : tie.Need-show-widths-requires
-show-widths-requires c κs =
-    let u = c .before .before .before .before .before .before in
-    let v = u .before .before in
+show-lists-requires : tie.Need-show-lists-requires
+show-lists-requires c κs =
+    let v = c .before .before .before .before in
     let r = v .before in
     let m = r .before .before .before .before .before in
-    let s = m .before .before .before .before .before .before .before .before in (
-      record { few = s .pre .0; log = moves-made m .0; list = rw (v .line-size .ensures) (s .pre .2); runs = runs-made r .0 },
-      record { room = omega (arith, s .pre .4 .room, u .collect-head .kept .1 .0); inside = u .collect-head .ensures .inside },
-    )
-
-add-first-differ : tie.Need-add-first-differ
-add-first-differ c =
-    let v = c .before .before .before .before .before .before .before .before .before .before .before .before .before .before in
-    let s = v .before .before .before .before .before .before .before .before .before .before .before .before .before .before in
-    omega (arith, c .widths .ensures, widths-few (length (s .args .read .now)) (s .pre .0))
-
-collect-verdict-requires : tie.Need-collect-verdict-requires
-collect-verdict-requires c κs =
-    let u = c .before .before .before .before .before .before .before in
-    let v = u .before .before .before .before .before .before .before in
-    let s = v .before .before .before .before .before .before .before .before .before .before .before .before .before .before .before .before in
-    record {
-      room = omega (arith, s .pre .4 .room, v .collect-head .kept .1 .0, u .show-widths .kept .1 .1 .1 .1 .0);
-      inside = u .show-widths .ensures .1 .inside;
-    }
-
-returns : tie.Need-returns
-unfolding readView
-returns c =
-    let u = c .before .before in
-    let v = u .before .before in
-    let w = v .before .before .before .before .before .before in
-    let x = w .before .before .before .before .before .before .before in
-    let s = x .before .before .before .before .before .before .before .before .before .before .before .before .before .before .before .before in
-    collects-join (collects-join (x .collect-head .ensures) (w .show-widths .ensures .1))
-    (rw (v .first-differ .ensures ∙ verdict-agrees (s .args .count) _ (w .show-widths .ensures .0)
-    (taken-size _ _ (s .args .count) (s .pre .1) (s .pre .2))) at (u .collect-verdict .ensures))
+    let s = m .before .before .before .before .before .before .before .before in
+    (record { few = s .pre .0; log = moves-made m .0; list = rw (v .line-size .ensures) (s .pre .2); runs = runs-made r .0 }, s .pre .4)
 
 pub show-read-spec : {M : Type 1} → statement M
 show-read-spec =
@@ -117,16 +82,11 @@ show-read-spec =
     mul-ran
     (λ c κs. search needs)
     mul-size
-    (λ c κs. search needs)
     array-share-prefix-log
-    slice-aggregate-show-widths
-    slice-aggregate-show-widths-2
+    slice-aggregate-show-lists
+    slice-aggregate-show-lists-2
     array-share-prefix-runs
-    slice-aggregate-show-widths-3
-    show-widths-requires
-    (λ c κs. search needs)
-    add-first-differ
-    (λ c κs. search needs)
-    collect-verdict-requires
+    slice-aggregate-show-lists-3
+    show-lists-requires
     (λ c. search needs)
-    returns)
+    (λ c. search needs))
