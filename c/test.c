@@ -129,14 +129,22 @@ static void look_at_line(uint32_t i, uint32_t p, uint32_t e, size_t runs)
     expect(e >= 2 && counting == 1 && holding == 1, "a repeat lies whole in one run of its period, and is counted to its end");
 }
 
-/* repeats and runs agree: each line is counted by a run, and there are as many lines as the runs count */
+static int rises(const uint16_t *line, const uint16_t *next)
+{
+    return line[1] < next[1] || (line[1] == next[1] && line[0] < next[0]);
+}
+
+/* repeats and runs agree: each line is counted by a run, no line stands twice, and there are as many as the runs count */
 static void look_at_both(size_t n, size_t runs)
 {
     sorunggyeo_answer a = one(sorunggyeo_list(read, n, 0, list, LINES * SORUNGGYEO_LINE));
     size_t counted = 0;
-    if (a.number != SORUNGGYEO_OK) return;
-    for (size_t k = 0; k < a.value; k++)
-        look_at_line(list[SORUNGGYEO_LINE * k], list[SORUNGGYEO_LINE * k + 1], list[SORUNGGYEO_LINE * k + 2], runs);
+    expect(a.number == SORUNGGYEO_OK, "there is room for the list");
+    for (size_t k = 0; k < a.value; k++) {
+        const uint16_t *line = list + SORUNGGYEO_LINE * k;
+        look_at_line(line[0], line[1], line[2], runs);
+        expect(k == 0 || rises(line - SORUNGGYEO_LINE, line), "the list rises by period, then start");
+    }
     for (const uint16_t *run = maximal; run < maximal + SORUNGGYEO_RUN * runs; run += SORUNGGYEO_RUN)
         for (uint32_t i = run[0]; i <= run[1]; i++) counted += (run[1] + 1u - i) / run[2] >= 2;
     expect(counted == a.value, "there are as many repeats as the runs count");

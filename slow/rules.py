@@ -196,9 +196,9 @@ def lies_whole(line, maximal):
     return [(a, b, q) for a, b, q in maximal if q == p and a <= i and i + p * e - 1 <= b]
 
 def agree(lines, maximal):
-    # both sentences, of a list and of runs: which (i, p, e) there are, and that each lies whole in exactly one run
-    counted = {(i, p, (b + 1 - i) // p) for a, b, p in maximal for i in range(a, b + 1)}
-    return set(lines) == {line for line in counted if line[2] >= 2} and all(len(lies_whole(line, maximal)) == 1 for line in lines)
+    # both sentences, of a list and of runs: which (i, p, e) there are, in order, and that each lies whole in exactly one run
+    counted = [(i, p, (b + 1 - i) // p) for a, b, p in maximal for i in range(a, b + 1) if (b + 1 - i) // p >= 2]
+    return lines == sorted(counted, key=lambda line: (line[1], line[0])) and all(len(lies_whole(line, maximal)) == 1 for line in lines)
 
 def front(numbers, buffer):
     return numbers + buffer[len(numbers):]

@@ -1,5 +1,5 @@
 // The bench's own check that the list's lines of one period are those that the groups of that width give, code apart from the lister's; and
-// the rows of one width in a log, a list or the runs. Each function promises what its definition in specs/ says, for every slice.
+// the rows of one width in a log, a list or the runs. Each public function promises what its definition in specs/ says, for every slice.
 ghost use mathlib.Core.Path.{_≡_};
 ghost use Prim.Native.Nat.{_+_, _≤_, _<_};
 ghost use lib.ListN.{length};

@@ -8,7 +8,6 @@ ghost use Rattle.bench_shows.specs.Collecting.{Roomy, Collects};
 ghost use Rattle.bench_widths.specs.Reaching.{Own};
 ghost use Rattle.bench_reads.specs.Views.{readView};
 ghost use Rattle.bench_reads.specs.Steps.{Viewed};
-use bench_runs::runs_agree;
 use bench_shows::collect_accord;
 use bench_shows::collect_head;
 use bench_shows::collect_refusal;
@@ -40,8 +39,7 @@ fn show_lists(
     let out = p.out;
     let differ = first_differ(p.differ, whole, widths(read.len()) + 1);
     let o = collect_verdict(differ, buf, out);
-    let agree = runs_agree(list, runs);
-    collect_accord(agree, buf, o)
+    collect_accord(list, runs, buf, o)
 }
 
 // shows a read whose list of `count` lines is made; the log has room for that of any read, and no read has more runs than lines

@@ -1,5 +1,6 @@
 // One width of a read shown from its table, and the other lines of the view: each text is collected behind what was collected before, once
-// there is room for the longest one. `show_table` cuts out the width's parts of the log, of the list and of the runs, and compares the list with the groups.
+// there is room for the longest one. `show_table` cuts out the width's parts of the log, of the list and of the runs, and compares the list with the groups;
+// `collect_accord` compares the list with the runs.
 ghost use mathlib.Core.Path.{_≡_};
 ghost use mathlib.Core.List.{_∷_, []};
 ghost use Prim.Native.Nat.{_^_, _≤_, _<_};
@@ -9,10 +10,12 @@ ghost use Rattle.words.specs.Rows.{rows};
 ghost use Rattle.words.specs.Lists.{lineSize};
 ghost use Rattle.words.specs.Moves.{moveSize};
 ghost use Rattle.words_runs.specs.Runs.{runSize};
+ghost use Rattle.words_agree.specs.Lists.{agree};
 ghost use Rattle.text_answers.specs.Texts.{refusedText};
 ghost use Rattle.text_views.specs.Views.{widthText, headText, verdictText, accordText};
 ghost use Rattle.bench_shows.specs.Collecting.{Roomy, Collects};
 ghost use Rattle.bench_shows.specs.Places.{Brief, movesFrom, linesFrom, runsFrom, firstDiffer, Shown};
+use bench_accords::runs_agree;
 use bench_agrees::part_from;
 use row_lines::line_size;
 use row_lines::period_cell;
@@ -76,11 +79,12 @@ pub fn collect_verdict(w: usize, buf: &mut [u8], start: Out) -> Out
     }
 }
 
-// collects the last line: do repeats and runs agree?
-pub fn collect_accord(agree: bool, buf: &mut [u8], start: Out) -> Out
+// collects the last line: do this list and these runs agree?
+pub fn collect_accord(list: &[u16], runs: &[u16], buf: &mut [u8], start: Out) -> Out
     requires { ⌜ Roomy (now buf) (start .used) ⌝ }
-    ensures { λ r. ⌜ Collects (now (buf .entry)) start (accordText agree) (now (buf .exit)) r ⌝ }
+    ensures { λ r. ⌜ Collects (now (buf .entry)) start (accordText (agree (now (list .entry)) (now (runs .entry)))) (now (buf .exit)) r ⌝ }
 {
+    let agree = runs_agree(list, runs);
     let o = text_outs::room(buf, 64, start);
     let at = o.used;
     let end = text_views::put_accord(buf, at, agree);

@@ -1,20 +1,19 @@
 -- The moves of a width hold it as their width, the lines and the runs of a period as their period. Assumes nothing.
 use Prim.Native.Nat.{ℕ, zero, suc, _-_, _<_}
-use mathlib.Core.Path.{_≡_, sym, ap, _∙_}
+use mathlib.Core.Path.{_≡_, _∙_}
 use mathlib.Core.Bool.{Bool}
-use mathlib.Core.List.{List, []}
+use mathlib.Core.List.{List}
 use native.Mathlib.Omega.{arith}
 use lib.ListN.{length}
 use lib.Dec.{eqb}
-use Rattle.words.specs.Rows.{rows, row, cell}
+use Rattle.words.specs.Rows.{rows, cell}
 use Rattle.words.specs.Reads.{at}
 use Rattle.words.specs.Repeats.{copies}
 use Rattle.words.specs.Groups.{table, smalls}
 use Rattle.words.specs.ByPeriod.{rowIf, rowsAt}
 use Rattle.words.specs.Lists.{lineOf, lineSize, periodCell, lineAt, listed, linesAt, inMode}
 use Rattle.words.specs.Moves.{moveOf, moveSize, widthCell, moveAt, movesOf, movesIn, moves}
-use Rattle.words.proofs.Ranges.{append-nil}
-use Rattle.words.proofs.Rows.{rows-times, row-here}
+use Rattle.words.proofs.Rows.{rows-times, row-alone}
 use Rattle.words.proofs.MoveLayout.{move-length, width-inside, width-cell, entry-width}
 use Rattle.words.proofs.LineLayout.{line-length, period-inside, line-period}
 use Rattle.words_runs.specs.Runs.{runOf, runSize, runPeriodCell, reach, runBegins, runAt, runsAt}
@@ -31,10 +30,6 @@ row-keyed c j inside w r e q = record { full = rw one (omega (arith, e)); key = 
     only : (k : ℕ) → k < 1 → cell c r k j ≡ w
     only zero h = q
     only (suc k) h = absurd (omega arith)
-
--- a row alone is its own first row
-row-alone : (c : ℕ) (r : List ℕ) → length r ≡ c → row c r 0 ≡ r
-row-alone c r e = ap (λ (l : List ℕ). row c l 0) (sym (append-nil r)) ∙ row-here c r [] e
 
 move-keyed : (w s i : ℕ) → Keyed moveSize widthCell width-inside w (moveOf w s i)
 move-keyed w s i =

@@ -1,7 +1,6 @@
 -- Document 02, item 8, over the contracts of the calls: where `list` in mode 0 and `runs` both succeed on a read, the two slices agree. Assumes nothing.
 use Prim.Native.Nat.{ℕ}
 use mathlib.Core.Path.{_≡_}
-use mathlib.Core.Bool.{true}
 use mathlib.Core.List.{List}
 use denote.Ref.{now}
 use Rattle.words.specs.Rows.{rows}
@@ -10,8 +9,8 @@ use Rattle.words.specs.Answers.{success, refusal, listedSays}
 use Rattle.words.proofs.Afterwards.{front}
 use Rattle.words_runs.specs.Runs.{runSize, runs, runCount}
 use Rattle.words_runs.specs.Calls.{runsListedSays}
-use Rattle.words_agree.specs.Lists.{linesByRuns, agree}
-use Rattle.words_agree.proofs.Lists.{InRun, InOneRun, own-agree, lists-agree, lists-one-run}
+use Rattle.words_agree.specs.Lists.{linesByRuns}
+use Rattle.words_agree.proofs.Lists.{InRun, InOneRun, lists-agree, lists-one-run}
 use Rattle.words_agree.proofs.ByRuns.{list-by-runs}
 use Rattle.call_lists.proofs.list.Reads as list-call
 use Rattle.call_runs.proofs.runs.Reads as runs-call
@@ -23,13 +22,11 @@ pub record RunsAndRepeatsAgree (l s : List ℕ) : Type 0 where
   pub in-run : InRun l s
   -- each line of l lies whole in exactly one run of s of its own period
   pub in-one-run : InOneRun l s
-  -- line by line: l is what the runs of s give, one after another
+  -- and, line by line, l is what the runs of s give, one after another
   pub unrolled : linesByRuns s ≡ l
-  -- and the bench's check says so
-  pub told : agree l s ≡ true
 
 agree-lists : (x : List ℕ) → RunsAndRepeatsAgree (lines x (inMode x 0)) (runs x)
-agree-lists x = record { in-run = lists-agree x; in-one-run = lists-one-run x; unrolled = list-by-runs x; told = own-agree x }
+agree-lists x = record { in-run = lists-agree x; in-one-run = lists-one-run x; unrolled = list-by-runs x }
 
 -- where both calls succeed, the front of the one slice is as many lines as its call answers, the front of the other as many runs, and these agree
 pub runs-and-repeats-agree : (κs : _) (a : _) (r : _) (e : _) → list-call.Learnt κs a r e → (ls : _) (b : _) (q : _) (f : _) → runs-call.Learnt ls b q f

@@ -6,7 +6,7 @@ ghost use Prim.Native.Nat.{_≤_};
 ghost use lib.ListN.{length};
 ghost use lib.Dec.{eqb};
 ghost use Rattle.words.specs.Lists.{lineOf};
-ghost use Rattle.row_matches.specs.Matching.{nothing, Passes};
+ghost use Rattle.row_matches.specs.Matching.{nothing, passed};
 use row_lines::is_line;
 use row_lines::line_size;
 
@@ -26,7 +26,7 @@ pub fn begin() -> Matched
 // one line more
 pub fn pass_line(list: &[u16], m: Matched, start: usize, period: usize, copies: usize) -> Matched
     requires { ⌜ m .at ≤ length (now list) ⌝ }
-    ensures { λ r. ⌜ Passes (lineOf start period copies) (now (list .entry)) m r ⌝ }
+    ensures { λ r. ⌜ r ≡ passed (lineOf start period copies) (now (list .entry)) m ⌝ }
 {
     let at = m.at;
     if is_line(list, at, start, period, copies) {

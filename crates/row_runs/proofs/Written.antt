@@ -1,4 +1,4 @@
--- A run as the code writes it. Only this file opens a run for the code. Assumes nothing.
+-- A run as the code reads and writes it. Only this file opens a run for the code. Assumes nothing.
 use Prim.Native.Nat.{ℕ, _+_, _<_}
 use mathlib.Core.Path.{_≡_, refl}
 use mathlib.Core.List.{List, [], _∷_}

@@ -3,7 +3,7 @@
 use Prim.Native.Nat.{ℕ, zero, suc, _+_, _-_, _*_, _/_, _%_, _≤_, _<_}
 use mathlib.Core.Path.{_≡_, sym, ap, subst, _∙_}
 use mathlib.Core.Logic.{_⊎_, inl, inr, ⊎-elim}
-use mathlib.Core.Bool.{_&&_}
+use mathlib.Core.Bool.{Bool, true, false, _&&_, cond}
 use mathlib.Core.List.{List, [], _++_, append-assoc}
 use native.Mathlib.Omega.{arith}
 use native.Mathlib.Nat.{add-div-left, mul-div-right, mul-add-div, mul-mod-right, div-add-mod, zero-div, eq-or-lt-of-le, mul-le-mul-left}
@@ -28,6 +28,10 @@ module _ (c : ℕ) where
   pub row-here : (r l : List ℕ) → length r ≡ c → row c (r ++ l) 0 ≡ r
   unfolding row
   row-here r l h = let z : c * 0 ≡ 0 = omega arith in rw z (take-at r l c h)
+
+  -- a row by itself
+  pub row-alone : (r : List ℕ) → length r ≡ c → row c r 0 ≡ r
+  row-alone r h = ap (λ (l : List ℕ). row c l 0) (sym (append-nil r)) ∙ row-here r [] h
 
   -- the rows after the first m
   pub row-after : (r l : List ℕ) (m k : ℕ) → length r ≡ c * m → row c (r ++ l) (m + k) ≡ row c l k
@@ -143,17 +147,22 @@ module _ (c : ℕ) where
 
   module _ (one : 1 ≤ c) where
     pub has-one : (r : List ℕ) → length r ≡ c → Has r r
-    has-one r h = (0, omega (arith, rows-times r 1 one (omega (arith, h))), ap (λ (l : List ℕ). row c l 0) (sym (append-nil r)) ∙ row-here r [] h)
+    has-one r h = (0, omega (arith, rows-times r 1 one (omega (arith, h))), row-alone r h)
 
     -- and there is no other in it
     pub has-only : (r q : List ℕ) → length r ≡ c → Has r q → r ≡ q
     has-only r q h w =
         let e : w .0 ≡ 0 = omega (arith, w .1, rows-times r 1 one (omega (arith, h))) in
-        sym (ap (λ (l : List ℕ). row c l 0) (sym (append-nil r)) ∙ row-here r [] h) ∙ ap (row c r) (sym e) ∙ w .2
+        sym (row-alone r h) ∙ ap (row c r) (sym e) ∙ w .2
 
     pub rows-append : (l m : List ℕ) → Full l → rows c (l ++ m) ≡ rows c l + rows c m
     unfolding rows
     rows-append l m h = ap (λ (v : ℕ). v / c) (length-append l m ∙ ap (λ (v : ℕ). v + length m) h) ∙ mul-add-div one (rows c l) (length m)
+
+    -- one row, if there is any
+    pub full-if : (b : Bool) (r : List ℕ) → length r ≡ c → Full (cond b r [])
+    full-if true r h = omega (arith, h, ap (λ (n : ℕ). c * n) (rows-times r 1 one (omega (arith, h))))
+    full-if false r h = omega (arith, ap (λ (n : ℕ). c * n) rows-none)
 
     pub full-append : (l m : List ℕ) → Full l → Full m → Full (l ++ m)
     full-append l m h g = rw (length-append l m, rows-append l m h) (omega (arith, h, g))
@@ -201,3 +210,34 @@ module _ (c : ℕ) where
         (λ u. (j, omega arith, omega arith, u))
         (λ u. let v = gather-has f r d (suc j) (λ k a b. h k (omega arith) (omega arith)) u in (v .0, omega (arith, v .1), omega (arith, v .2), v .3))
         (has-either (f j) (gather f d (suc j)) r (h j (omega arith) (omega arith)) w)
+
+    -- a row of an earlier list of the range stands before one of a later list
+    pub gather-two : (f : ℕ → List ℕ) (r q : List ℕ) (d j m n : ℕ) → j ≤ m → m < n → n < j + d → ((k : ℕ) → j ≤ k → k < j + d → Full (f k)) → Has (f m) r → Has (f n) q
+        → (h k : ℕ) × (h < k) × (k < rows c (gather f d j)) × (row c (gather f d j) h ≡ r) × (row c (gather f d j) k ≡ q)
+    unfolding gather
+    gather-two f r q zero j m n a l b full u v = absurd (omega arith)
+    gather-two f r q (suc d) j m n a l b full u v =
+        let rest : List ℕ = gather f d (suc j) in
+        let here : Full (f j) = full j (omega arith) (omega arith) in
+        let all : rows c (f j ++ rest) ≡ rows c (f j) + rows c rest = rows-append (f j) rest here in
+        ⊎-elim
+        (λ (e : j ≡ m).
+        let w : Has (f j) r = subst (λ (i : ℕ). Has (f i) r) (sym e) u in
+        let z = has-gather f q d (suc j) n (omega arith) (omega arith) (λ k g t. full k (omega arith) (omega arith)) v in (
+          w .0,
+          rows c (f j) + z .0,
+          omega (arith, w .1),
+          omega (arith, z .1, all),
+          row-before (f j) rest (w .0) (omega (arith, here, mul-le-mul-left c (w .1))) ∙ w .2,
+          row-after (f j) rest (rows c (f j)) (z .0) here ∙ z .2,
+        ))
+        (λ e.
+        let z = gather-two f r q d (suc j) m n e l (omega arith) (λ k g t. full k (omega arith) (omega arith)) u v in (
+          rows c (f j) + z .0,
+          rows c (f j) + z .1,
+          omega (arith, z .2),
+          omega (arith, z .3, all),
+          row-after (f j) rest (rows c (f j)) (z .0) here ∙ z .4,
+          row-after (f j) rest (rows c (f j)) (z .1) here ∙ z .5,
+        ))
+        (eq-or-lt-of-le a)

@@ -1,6 +1,6 @@
 -- The lines by a list of runs, run after run: those of a list put together are those of its parts, and a row of them is the line of a position that some run covers.
 -- Assumes nothing.
-use Prim.Native.Nat.{ℕ, zero, suc, _+_, _-_, _*_, _≤_, _<_}
+use Prim.Native.Nat.{ℕ, zero, suc, _+_, _-_, _≤_, _<_}
 use mathlib.Core.Path.{_≡_, refl, sym, ap, _∙_}
 use mathlib.Core.Logic.{_↔_}
 use mathlib.Core.Bool.{Bool, true, false, cond}
@@ -13,7 +13,7 @@ use Rattle.words.specs.Range.{gather}
 use Rattle.words.specs.Rows.{rows, row}
 use Rattle.words.specs.Lists.{lineOf, lineSize}
 use Rattle.words.proofs.Ranges.{append-nil, gather-same, gather-along, gather-parts}
-use Rattle.words.proofs.Rows.{row-before, row-after, row-here, rows-none, rows-times, rows-append, Full, Has, has-one, has-only, full-gather, has-gather, gather-has}
+use Rattle.words.proofs.Rows.{row-before, row-after, row-alone, rows-none, rows-times, rows-append, Full, Has, has-one, has-only, full-if, full-gather, has-gather, gather-has, gather-two}
 use Rattle.words.proofs.LineLayout.{line-length, line-some, line-tells}
 use Rattle.words_runs.specs.Runs.{runOf, runSize, runStart, runEnd, runPeriod}
 use Rattle.words_runs.proofs.RunLayout.{run-length, run-some, run-says, run-only, run-spelled}
@@ -40,10 +40,9 @@ pub by-one : (a b p : ℕ) → linesByRuns (runOf a b p) ≡ linesBy a b p
 unfolding linesByRuns gather
 by-one a b p =
     let r : List ℕ = runOf a b p in
-    let here : row runSize r 0 ≡ r = ap (λ (l : List ℕ). row runSize l 0) (sym (append-nil r)) ∙ row-here runSize r [] (run-length a b p) in
     ap (λ (n : ℕ). gather (linesByRow r) n 0) (rows-times runSize r 1 run-some (omega (arith, run-length a b p)))
     ∙ append-nil (linesByRow r 0)
-    ∙ row-lines r 0 a b p here
+    ∙ row-lines r 0 a b p (row-alone runSize r (run-length a b p))
 
 by-append : (s t : List ℕ) → Full runSize s → linesByRuns (s ++ t) ≡ linesByRuns s ++ linesByRuns t
 unfolding linesByRuns
@@ -72,11 +71,7 @@ by-gather f (suc d) j h =
 
 line-full : (b p i : ℕ) → Full lineSize (lineBy p b i)
 unfolding lineBy
-line-full b p i = go (leb 2 (wholePeriods p i b))
-  where
-    go : (t : Bool) → Full lineSize (cond t (lineOf i p (wholePeriods p i b)) [])
-    go true = let l = line-length i p (wholePeriods p i b) in omega (arith, l, ap (λ (n : ℕ). lineSize * n) (rows-times lineSize (lineOf i p (wholePeriods p i b)) 1 line-some (omega (arith, l))))
-    go false = omega (arith, ap (λ (n : ℕ). lineSize * n) (rows-none lineSize))
+line-full b p i = full-if lineSize line-some (leb 2 (wholePeriods p i b)) (lineOf i p (wholePeriods p i b)) (line-length i p (wholePeriods p i b))
 
 lines-full : (a b p : ℕ) → Full lineSize (linesBy a b p)
 unfolding linesBy
@@ -127,3 +122,14 @@ has-by-runs s i p e = (
       has-gather lineSize line-some (linesByRow s) (lineOf i p e) (rows runSize s) 0 k (omega arith) (omega (arith, w .2 .1)) (λ h l m. lines-full (runStart s h) (runEnd s h) (runPeriod s h))
       (rw (row-lines s k (w .0) (w .1) p (w .2 .2)) (has-lines (w .0) (w .1) p i p e .1 (refl, w .3))),
 )
+
+-- runs k and h of a list both count one of (i, p, ..): the lines by the one stand before those by the other
+pub two-by-runs : (s : List ℕ) (k h a b c d i p e f : ℕ) → k < h → h < rows runSize s → row runSize s k ≡ runOf a b p → row runSize s h ≡ runOf c d p
+    → counts a b i p e ≡ true → counts c d i p f ≡ true
+    → (m n : ℕ) × (m < n) × (n < rows lineSize (linesByRuns s)) × (row lineSize (linesByRuns s) m ≡ lineOf i p e) × (row lineSize (linesByRuns s) n ≡ lineOf i p f)
+unfolding linesByRuns linesByRow
+two-by-runs s k h a b c d i p e f l m u v t w =
+    gather-two lineSize line-some (linesByRow s) (lineOf i p e) (lineOf i p f) (rows runSize s) 0 k h (omega arith) l (omega arith)
+    (λ j y z. lines-full (runStart s j) (runEnd s j) (runPeriod s j))
+    (rw (row-lines s k a b p u) (has-lines a b p i p e .1 (refl, t)))
+    (rw (row-lines s h c d p v) (has-lines c d p i p f .1 (refl, w)))

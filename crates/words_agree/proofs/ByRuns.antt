@@ -15,7 +15,7 @@ use Rattle.words.specs.Groups.{table, gap}
 use Rattle.words.specs.Lists.{lineAt, line, linesAt, lines, inMode}
 use Rattle.words.proofs.Tests.{lt-or-ge, fails}
 use Rattle.words.proofs.Ranges.{append-nil, gather-none, gather-same, gather-parts, gather-stop}
-use Rattle.words.proofs.Rows.{Full, rows-none, rows-times, full-gather}
+use Rattle.words.proofs.Rows.{Full, full-if, full-gather}
 use Rattle.words.proofs.Repeats.{gap-next}
 use Rattle.words.proofs.Lines.{line-gap, lines-at-each}
 use Rattle.words.proofs.Lists.{mode-all}
@@ -39,7 +39,7 @@ module _ (x : List ℕ) (p : ℕ) (h : 1 ≤ p) where
   abbrev own : ℕ → List ℕ
   own = line x (inMode x 0) p
 
-  -- where no distance is p, there is no line and no run begins
+  -- where the distance is not p, there is no line
   own-none : (i : ℕ) → 1 ≤ i → i ≤ length x → gap (table x p) i ≢ p → own i ≡ []
   own-none i a b ne = line-gap x (inMode x 0) p i a b h ∙ rw (ne-eqb (gap (table x p) i) p ne)
 
@@ -139,11 +139,7 @@ module _ (x : List ℕ) (p : ℕ) (h : 1 ≤ p) where
 module _ (x : List ℕ) where
   row-full : (p a : ℕ) → Full runSize (rowIf (runBegins x) (runAt x) p a)
   unfolding rowIf
-  row-full p a = go (runBegins x p a)
-    where
-      go : (t : Bool) → Full runSize (cond t (runAt x p a) [])
-      go true = let l = run-at-length x p a in omega (arith, l, ap (λ (n : ℕ). runSize * n) (rows-times runSize (runAt x p a) 1 run-some (omega (arith, l))))
-      go false = omega (arith, ap (λ (n : ℕ). runSize * n) (rows-none runSize))
+  row-full p a = full-if runSize run-some (runBegins x p a) (runAt x p a) (run-at-length x p a)
 
   by-row : (p a : ℕ) → linesByRuns (rowIf (runBegins x) (runAt x) p a) ≡ cond (runBegins x p a) (linesBy a (reach x p a) p) []
   unfolding rowIf runAt

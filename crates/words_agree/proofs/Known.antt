@@ -37,8 +37,8 @@ pub record Known : Type 0 where
       × (agree (1 ∷ 2 ∷ 3 ∷ 2 ∷ 2 ∷ 3 ∷ 3 ∷ 2 ∷ 2 ∷ []) (1 ∷ 7 ∷ 2 ∷ []) ≡ false)
       × (agree (1 ∷ 1 ∷ 2 ∷ 2 ∷ 1 ∷ 2 ∷ []) (1 ∷ 2 ∷ 1 ∷ []) ≡ false)
       × (agree (1 ∷ 1 ∷ 2 ∷ []) (1 ∷ 2 ∷ []) ≡ false)
-  -- and lists that no read has: nothing, a period of 0, an end before the start
-  pub foreign : (agree [] [] ≡ true) × (agree [] (1 ∷ 7 ∷ 0 ∷ []) ≡ true) × (agree [] (7 ∷ 1 ∷ 1 ∷ []) ≡ true)
+  -- of an empty read, and lists that no read has: a period of 0, an end before the start
+  pub edges : (agree [] [] ≡ true) × (agree [] (1 ∷ 7 ∷ 0 ∷ []) ≡ true) × (agree [] (7 ∷ 1 ∷ 1 ∷ []) ≡ true)
 
 pub known : Known
 unfolding first every gather rowIf rowsAt byPeriod at letterOf letter same rows cell lineOf again periodic leastPeriod repetition leftEnds rightEnds run reach runOf runSize runPeriodCell runStart runEnd runPeriod runBegins runAt runs covers wholePeriods counts holds countedBy liesIn lineBy linesBy linesByRow linesByRuns agree
@@ -48,5 +48,5 @@ known = record {
   least = (refl, refl);
   overlap = (refl, refl, refl, refl);
   differ = (refl, refl, refl, refl);
-  foreign = (refl, refl, refl);
+  edges = (refl, refl, refl);
 }

@@ -1,4 +1,4 @@
--- `bench_shows::collect_verdict` meets its contract: room is made for the longest last line, and the line is put there. Assumes nothing.
+-- `bench_shows::collect_verdict` meets its contract: room is made for the longest such line, and the line is put there. Assumes nothing.
 use native.Mathlib.Omega.{arith}
 use borrow.Author.Needs.{needs}
 use Rattle.text_views.proofs.Bounds.{verdict-bound}

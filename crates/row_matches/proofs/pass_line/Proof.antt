@@ -14,13 +14,13 @@ returns : tie.Need-returns
 returns c =
     let u = c .before .before in
     let s = u .before .before in
-    rw (c .line-size .ensures) (line-on _ (s .args .m) (s .pre) _ _ _ (sym (u .is-line .ensures) ∙ c .before .if1 .taken))
+    rw (c .line-size .ensures) (line-on _ (s .args .m) _ _ _ (sym (u .is-line .ensures) ∙ c .before .if1 .taken))
 
 returns-2 : tie.Need-returns-2
 returns-2 c =
     let u = c .before in
     let s = u .before .before in
-    line-off _ (s .args .m) (s .pre) _ _ _ (sym (u .is-line .ensures) ∙ c .if1 .left)
+    line-off _ (s .args .m) _ _ _ (sym (u .is-line .ensures) ∙ c .if1 .left)
 
 pub pass-line-spec : {M : Type 1} → statement M
 pass-line-spec = tie.close (tie.spec (λ c κs. search needs) (λ c κs. search needs) add-t9 returns returns-2)

@@ -29,7 +29,7 @@ fn whole_periods(p: usize, i: usize, b: usize) -> usize
 
 // the lines by the run from a to b: once fewer than two periods are left, there is no more
 fn agree_run(list: &[u16], from: Matched, a: usize, b: usize, p: usize) -> Matched
-    requires { ⌜ (from .at ≤ length (now list)) × (a < 2 ^ 16) × (b < 2 ^ 16) ⌝ }
+    requires { ⌜ (from .at ≤ length (now list)) × (b < 2 ^ 16) ⌝ }
     ensures { λ r. ⌜ Passes (linesBy a b p) (now (list .entry)) from r ⌝ }
 {
     let mut m = from;

@@ -1,4 +1,4 @@
--- `bench_runs::agree_run` meets its contract: the lines are passed position by position, until fewer than two whole periods are left. Assumes nothing.
+-- `bench_accords::agree_run` meets its contract: the lines are passed position by position, until fewer than two whole periods are left. Assumes nothing.
 use Prim.Native.Nat.{suc, _+_, _-_, _≤_}
 use mathlib.Core.Path.{_≡_}
 use native.Mathlib.Omega.{arith}
@@ -6,10 +6,10 @@ use borrow.Author.Needs.{needs}
 use Rattle.words.specs.Range.{gather}
 use Rattle.words_agree.specs.Lists.{lineBy}
 use Rattle.row_matches.specs.Matching.{Passes}
-use Rattle.row_matches.proofs.Matching.{range-none, range-next}
-use Rattle.bench_runs.proofs.Stops.{line-here, stopped, all-passed}
-use Rattle.bench_runs.proofs.agree_run.Statement.{statement}
-use Rattle.bench_runs.proofs.agree_run.Tie as tie
+use Rattle.row_matches.proofs.Matching.{range-none, range-next, passed-passes}
+use Rattle.bench_accords.proofs.Stops.{line-here, stopped, all-passed}
+use Rattle.bench_accords.proofs.agree_run.Statement.{statement}
+use Rattle.bench_accords.proofs.agree_run.Tie as tie
 
 abbrev Inv-loop : tie.InvT-loop
 Inv-loop list a b p m₀ i₀ m i = (a ≤ i) × (i - a ≤ suc b - a) × Passes (gather (lineBy p b) (i - a) a) list m₀ m
@@ -21,7 +21,7 @@ loop-holds : tie.Need-loop-holds Inv-loop μ-loop
 loop-holds c = let s = c .before in let z : s .args .a - s .args .a ≡ 0 = omega arith in (omega arith, omega arith, rw z (range-none _ _ (s .pre .0)))
 
 whole-periods-requires : tie.Need-whole-periods-requires Inv-loop μ-loop
-whole-periods-requires c κs = (omega arith, c .before .before .before .pre .2)
+whole-periods-requires c κs = (omega arith, c .before .before .before .pre .1)
 
 returns : tie.Need-returns Inv-loop μ-loop
 returns c =
@@ -46,7 +46,7 @@ loop-again c =
     let line = line-here (s .args .p) (l .i) (s .args .b) (omega (arith, c .before .before .whole-periods .ensures, c .before .if1 .left)) in (
       omega (arith, l .inv .0),
       omega (arith, l .inv .0),
-      rw d (range-next _ _ _ (l .i) (omega (arith, l .inv .0)) (l .inv .2) (rw (line, ← c .before .before .whole-periods .ensures) (c .pass-line .ensures))),
+      rw d (range-next _ _ _ (l .i) (omega (arith, l .inv .0)) (l .inv .2) (rw (line, ← c .before .before .whole-periods .ensures, c .pass-line .ensures) (passed-passes _ _ (l .m) (l .inv .2 .inside)))),
     )
 
 returns-2 : tie.Need-returns-2 Inv-loop μ-loop

@@ -1,4 +1,4 @@
--- `bench_runs::runs_agree` meets its contract: the lines by all runs are passed, run after run. Assumes nothing.
+-- `bench_accords::runs_agree` meets its contract: the lines by all runs are passed, run after run. Assumes nothing.
 use Prim.Native.Nat.{ℕ, _-_, _≤_}
 use mathlib.Core.Path.{_≡_, sym, _∙_}
 use mathlib.Core.Bool.{_&&_}
@@ -14,8 +14,8 @@ use Rattle.words_agree.specs.Lists.{linesBy, linesByRow, linesByRuns, agree}
 use Rattle.row_matches.specs.Matching.{nothing, Passes}
 use Rattle.row_matches.specs.declared.Matched.{Matched}
 use Rattle.row_matches.proofs.Matching.{range-none, range-next, passes-all}
-use Rattle.bench_runs.proofs.runs_agree.Statement.{statement}
-use Rattle.bench_runs.proofs.runs_agree.Tie as tie
+use Rattle.bench_accords.proofs.runs_agree.Statement.{statement}
+use Rattle.bench_accords.proofs.runs_agree.Tie as tie
 
 -- after the last run
 all-agree : (list s : List ℕ) (k : ℕ) (m : Matched) → k ≡ rowsOf runSize s → Passes (gather (linesByRow s) k 0) list nothing m
@@ -50,8 +50,7 @@ period-of-requires c κs = let l = c .before .before .before .before .before .lo
 agree-run-requires : tie.Need-agree-run-requires Inv-loop μ-loop
 agree-run-requires c κs =
     let w = c .before .before in
-    let u = w .before .before in
-    (u .before .before .before .loop .inv .2 .inside, omega (arith, u .wide .ensures), omega (arith, w .wide2 .ensures))
+    (w .before .before .before .before .before .loop .inv .2 .inside, omega (arith, w .wide2 .ensures))
 
 loop-again : tie.Need-loop-again Inv-loop μ-loop
 loop-again c =
