@@ -100,7 +100,8 @@ typedef struct {
 sorunggyeo_answer sorunggyeo_list(const uint8_t *read, size_t n, uint32_t mode, uint16_t *list, size_t room);
 
 /* The runs of the read to the front of `runs`, by period, then start: each stretch at least two of its least periods long that cannot be stretched by a base on
-   either side with the same period. A run ends with its last base, partial copy and all. The value is the number of runs. Refuses by 1, 3. */
+   either side with the same period. A run ends with its last base, partial copy and all. The value is the number of runs. Refuses by 1, 3. The list of mode 0 is what
+   the runs give, in this order: at each position i of a run, the copies are (end + 1 - i) / period, and it is a line as long as they are 2 or more. */
 sorunggyeo_answer sorunggyeo_runs(const uint8_t *read, size_t n, uint16_t *runs, size_t room);
 
 /* The name of each position's group at a width of 1 to n, its least position, to the front of `table`. The value is n. Refuses by 1, 2, 4. */
