@@ -1,5 +1,5 @@
 // The bench's own check that a list and a list of runs agree: the lines that the runs give, one after another, are compared with the list's. It looks at the two lists
-// alone, and its code is apart from the lister's. `crates/words_agree` has what agreeing means.
+// alone, and its code is apart from the lister's, but for the layout of a row. `crates/words_agree` has what agreeing means.
 ghost use mathlib.Core.Path.{_≡_};
 ghost use Prim.Native.Nat.{_^_, _≤_, _<_};
 ghost use lib.ListN.{length};

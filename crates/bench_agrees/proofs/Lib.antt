@@ -1,6 +1,6 @@
 pub mod Gaps
 pub mod Rows
-pub mod Turns
+pub mod Lines
 pub mod Agree
 pub mod Parts
 pub mod Cuts

@@ -1,4 +1,5 @@
--- The layout of a run: what anything above knows of it. Only this file opens `runOf`, `runSize` and `runPeriodCell`. Assumes nothing.
+-- The layout of a run: what anything above knows of it. Only this file opens `runOf`, `runSize` and which number of a run is which, but for `row_runs` and the computed
+-- examples. Assumes nothing.
 use Prim.Native.Nat.{ℕ, _≤_, _<_}
 use mathlib.Core.Path.{_≡_, refl, sym, ap, _∙_}
 use mathlib.Core.List.{List, [], _∷_}

@@ -2,7 +2,7 @@
 use mathlib.Core.Path.{sym, _∙_}
 use borrow.Author.Needs.{needs}
 use Rattle.row_matches.proofs.Matching.{passes-none, passed-passes}
-use Rattle.bench_agrees.proofs.Turns.{line-none, line-some}
+use Rattle.bench_agrees.proofs.Lines.{line-none, line-some}
 use Rattle.bench_agrees.proofs.agree_one.Statement.{statement}
 use Rattle.bench_agrees.proofs.agree_one.Tie as tie
 
