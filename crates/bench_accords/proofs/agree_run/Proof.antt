@@ -5,9 +5,10 @@ use native.Mathlib.Omega.{arith}
 use borrow.Author.Needs.{needs}
 use Rattle.words.specs.Range.{gather}
 use Rattle.words_agree.specs.Lists.{lineBy}
+use Rattle.words_agree.proofs.ByRow.{line-here}
 use Rattle.row_matches.specs.Matching.{Passes}
 use Rattle.row_matches.proofs.Matching.{range-none, range-next, passed-passes}
-use Rattle.bench_accords.proofs.Stops.{line-here, stopped, all-passed}
+use Rattle.bench_accords.proofs.Stops.{stopped, all-passed}
 use Rattle.bench_accords.proofs.agree_run.Statement.{statement}
 use Rattle.bench_accords.proofs.agree_run.Tie as tie
 
