@@ -1,6 +1,8 @@
 // The words that a claim rests on, each decided for any read and any numbers: how often a motif stands in a row (`copies_at`), how long its primitive root is (`root_at`),
 // whether a repeat leads (`is_leading`). Each promises the definition of its word. They are meant for a start and a period from 1 on; at 0, and past the read's
 // end, they answer what the definition computes there, and so ask for nothing. Each compares no more bases than the read has, `root_at` less than four periods.
+#![tactic(auto)]
+
 ghost use Rattle.std.specs.Prelude.{◌≡◌, ◌+◌, ◌≤◌, ◌<◌, length};
 ghost use Rattle.words.specs.Reads.{at, alike};
 ghost use Rattle.words.specs.Repeats.{leads, copies as copies_of};
