@@ -40,7 +40,7 @@ returns c =
     (sym
     (tells_copies _ _ _ _ c.if-read-gt-MOST.false (inside_is _ _ _ _ (sym c.is_outside.ensures ∙ c.if-is_outside.false)) (omega (arith, c.root_at-root.ensures, c.if-root-period.false))
     (λ two q. elim c.else-copies-ge2.branch [
-      else-copies-ge2-via-then-copies-ge2+else-count-copies w ↦ w.if-count-copies.false (c.copies_at-count.ensures ∙ q)
-    | else-copies-ge2-via-else-copies-ge2 w ↦ omega (arith, two, w.if-copies-ge2.false)
+      | else-copies-ge2-via-then-copies-ge2+else-count-copies w ↦ w.if-count-copies.false (c.copies_at-count.ensures ∙ q)
+      | else-copies-ge2-via-else-copies-ge2 w ↦ omega (arith, two, w.if-copies-ge2.false)
     ])
     ∙ ap Claimed.Copies (sym c.copies_at-count.ensures)))

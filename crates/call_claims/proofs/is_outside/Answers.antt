@@ -18,9 +18,9 @@ returns-then-start-eq0 c =
     sym
     (is_outside _ _ _ _
     (elim c.then-start-eq0.branch [
-      then-start-eq0-via-then-start-eq0 w ↦ inl w.if-start-eq0.true
-    | then-start-eq0-via-else-start-eq0+then-period-eq0 w ↦ inr (inl w.if-period-eq0.true)
-    | then-start-eq0-via-else-start-eq0+else-period-eq0+then-copies-eq0 w ↦ inr (inr (inl w.if-copies-eq0.true))
+      | then-start-eq0-via-then-start-eq0 w ↦ inl w.if-start-eq0.true
+      | then-start-eq0-via-else-start-eq0+then-period-eq0 w ↦ inr (inl w.if-period-eq0.true)
+      | then-start-eq0-via-else-start-eq0+else-period-eq0+then-copies-eq0 w ↦ inr (inr (inl w.if-copies-eq0.true))
     ]))
 
 pub returns : goal.returns

@@ -31,6 +31,6 @@ returns c =
     let some = c.if-words-eq0.false in
     let first = least_first _ S some in
     elim c.if-left-eq0.branch [
-      then-left-eq0 w ↦ let t = taken_lost _ S some w.if-left-eq0.true in rw w.set-is (t.0, first, t.1)
-    | else-left-eq0 w ↦ let t = taken_kept _ S some w.if-left-eq0.false in rw w.set-is (t.0, first, t.1)
+      | then-left-eq0 w ↦ let t = taken_lost _ S some w.if-left-eq0.true in rw w.set-is (t.0, first, t.1)
+      | else-left-eq0 w ↦ let t = taken_kept _ S some w.if-left-eq0.false in rw w.set-is (t.0, first, t.1)
     ]
