@@ -101,7 +101,7 @@ fn agree_inside(read: &[u8], i: usize, p: usize, d: usize) -> usize
 }
 
 // the length of the primitive root of the motif of a start and a period; of one that does not lie in the read it is the whole. Lengths are tried upwards, and none beyond
-// the half divides p. Where m bases agree and the next does not, no length up to m writes the motif (`jump-writes`); so each try costs less than the next
+// the half divides p. Where m bases agree and the next does not, no length up to m writes the motif (`jump_writes`); so each try costs less than the next
 // length that is tried, and all together less than the divisors of p add up to: less than 4 p bases
 pub fn root_at(read: &[u8], start: u32, period: u32) -> usize
     ensures { result ≡ root read.now start period }
