@@ -2,6 +2,8 @@
 // Both answer any input, and go by one definition, `site`: the only repeat that is scored, or the first refusal in the order.
 // `score` promises its copies and their signed difference from the reference, or the refusal. `shown` promises the motif, uncopied, as a part of one of the two lent slices, by its
 // bytes, its slice and its place: of the house list if that has the marker, otherwise of the read; of a read not scored the empty part at its front. `shown_part` gives slice, place and count.
+#![tactic(auto)]
+
 ghost use Rattle.std.specs.Prelude.{◌≡◌, cond, ◌+◌, ◌≤◌};
 ghost use Rattle.words.specs.Reads.{most};
 ghost use Rattle.words_markers.specs.Sites.{site};
