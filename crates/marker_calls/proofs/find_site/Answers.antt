@@ -9,14 +9,14 @@ use Rattle.marker_calls.proofs.find_site.Goals as goal
 pub fit-requires : goal.fit-requires
 fit-requires c =
     let k = c in
-    between-inside _ _ _ _ _ ((seats_exactly _ _ _ (Seats.Between _ _)).0 (sym k.seat.ensures ∙ k.from-1.given.1))
+    between-inside _ _ _ _ _ ((seats_exactly _ _ _ (Seats.Between _ _)).0 (sym k.seat.ensures ∙ k.in-Between.is))
 
 pub returns-in-Between : goal.returns-in-Between
 returns-in-Between c =
     let k = c in
-    c.fit.ensures ∙ sym (site-between _ _ _ _ _ _ (sym k.seat.ensures ∙ k.from-1.given.1))
+    c.fit.ensures ∙ sym (site-between _ _ _ _ _ _ (sym k.seat.ensures ∙ k.in-Between.is))
 
 pub returns-in-Not : goal.returns-in-Not
 returns-in-Not c =
     let k = c in
-    sym (site-not _ _ _ _ _ (sym k.seat.ensures ∙ k.why-1.given.1))
+    sym (site-not _ _ _ _ _ (sym k.seat.ensures ∙ k.in-Not.is))

@@ -11,8 +11,8 @@ use Rattle.marker_calls.proofs.score.Goals as goal
 
 -- the read is scored, at a position in it
 scored : (c : In-At) → let a = c.args in
-    site a.read.now a.left.now a.right.now a.motif.now ≡ Site.At c.i-1.given.0.0
-scored c = let i = c in sym i.find_site.ensures ∙ i.i-1.given.1
+    site a.read.now a.left.now a.right.now a.motif.now ≡ Site.At c.in-At.i
+scored c = let i = c in sym i.find_site.ensures ∙ i.in-At.is
 
 pub overflow_cast-i : goal.overflow_cast-i
 overflow_cast-i c = omega (arith, site-inside _ _ _ _ _ (scored (goal.at.overflow_cast-i c).In-At))
@@ -31,4 +31,4 @@ returns-in-At c =
 pub returns-in-Not : goal.returns-in-Not
 returns-in-Not c =
     let w = c in
-    sym (not_said _ _ _ _ _ _ (sym w.find_site.ensures ∙ w.why-1.given.1))
+    sym (not_said _ _ _ _ _ _ (sym w.find_site.ensures ∙ w.in-Not.is))

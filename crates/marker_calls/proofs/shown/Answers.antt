@@ -11,13 +11,13 @@ use Rattle.marker_calls.proofs.shown.Goals as goal
 
 -- it is of the house list, and lies in it
 of-list : (c : In-House) → let f = c in let a = f.args in
-    shown a.read.now a.house.now a.number a.left.now a.right.now a.motif.now ≡ Shown.House f.from-1.given.0.0
-of-list c = let f = c in sym f.place_shown.ensures ∙ f.from-1.given.1
+    shown a.read.now a.house.now a.number a.left.now a.right.now a.motif.now ≡ Shown.House c.in-House.from
+of-list c = let f = c in sym f.place_shown.ensures ∙ c.in-House.is
 
 -- it is of the read
 of-itself : (c : In-Read) → let f = c in let a = f.args in
-    shown a.read.now a.house.now a.number a.left.now a.right.now a.motif.now ≡ Shown.Read f.from-in-Read-1.given.0.0
-of-itself c = let f = c in sym f.place_shown.ensures ∙ f.from-in-Read-1.given.1
+    shown a.read.now a.house.now a.number a.left.now a.right.now a.motif.now ≡ Shown.Read c.in-Read.from
+of-itself c = let f = c in sym f.place_shown.ensures ∙ c.in-Read.is
 
 pub overflow_add-to : goal.overflow_add-to
 overflow_add-to c = omega (arith, house_part _ _ _ _ _ _ _ (of-list (goal.at.overflow_add-to c).In-House))
@@ -38,4 +38,4 @@ pub returns-in-Read : goal.returns-in-Read
 returns-in-Read c = of_read _ _ _ _ _ (of-itself (goal.at.returns-in-Read c).In-Read)
 
 pub returns-in-Nothing : goal.returns-in-Nothing
-returns-in-Nothing c = let t = c in of_nothing _ _ _ _ (sym t.place_shown.ensures ∙ t.enum_told-1.given.1)
+returns-in-Nothing c = let t = c in of_nothing _ _ _ _ (sym t.place_shown.ensures ∙ c.in-Nothing.is)
