@@ -7,7 +7,7 @@
 ghost use Rattle.std.specs.Prelude.{◌≡◌, cond, ◌+◌, ◌≤◌};
 ghost use Rattle.words.specs.Reads.{most};
 ghost use Rattle.words_markers.specs.Sites.{site};
-ghost use Rattle.words_markers.specs.Calls.{scored_says, score_of, score_answer, shown as shownAt, of_house, from_of, part_of};
+ghost use Rattle.words_markers.specs.Calls.{scored_says, score_of, score_answer, shown as shown_at, of_house, from_of, part_of};
 ghost use Rattle.marker_calls.specs.Parts.{shown_part};
 
 use call_copies::copies_at;
@@ -67,7 +67,7 @@ fn place_shown(
     right: &[u8],
     motif: &[u8],
 ) -> Shown
-    ensures { result ≡ shownAt read.now house.now number left.now right.now motif.now }
+    ensures { result ≡ shown_at read.now house.now number left.now right.now motif.now }
 {
     let Site::At(i) = find_site(read, left, right, motif) else {
         return Shown::Nothing;
@@ -89,7 +89,7 @@ pub fn shown<'a>(
     right: &[u8],
     motif: &[u8],
 ) -> &'a [u8]
-    ensures { let s = shownAt read.now house.now number left.now right.now motif.now in
+    ensures { let s = shown_at read.now house.now number left.now right.now motif.now in
         (result.now ≡ part_of read.now house.now motif.now s)
         × (result.ref_ptr.0 ≡ (cond (of_house s) house.entry read.entry).ref_ptr.0)
         × (result.ref_ptr.1 ≡ (cond (of_house s) house.entry read.entry).ref_ptr.1 + from_of s) }
@@ -116,7 +116,7 @@ pub fn shown_part(
     right: &[u8],
     motif: &[u8],
 ) -> ShownPart
-    ensures { result ≡ shown_part motif.now (shownAt read.now house.now number left.now right.now motif.now) }
+    ensures { result ≡ shown_part motif.now (shown_at read.now house.now number left.now right.now motif.now) }
 {
     let count = motif.len();
     match place_shown(read, house, number, left, right, motif) {
