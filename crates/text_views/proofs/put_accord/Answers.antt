@@ -1,5 +1,4 @@
 -- `text_views::put_accord` meets its contract: one line or the other. Assumes nothing.
-use borrow.Author.Rules.{rules}
 use Rattle.text_puts.specs.Ascii.{ascii}
 use Rattle.text_views.specs.Views.{accord_text}
 use Rattle.text_views.proofs.put_accord.Goals as goal

@@ -1,5 +1,4 @@
 -- `text_views::put_head` meets its contract: the four pieces of its line, one after another. Assumes nothing.
-use borrow.Author.Rules.{rules}
 use Rattle.text_puts.specs.Ascii.{ascii}
 use Rattle.text_views.proofs.Pieces.{read_room, length-room, bytes_room, head_end_room, head_puts}
 use Rattle.text_views.proofs.put_head.Goals as goal

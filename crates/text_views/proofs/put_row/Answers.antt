@@ -1,7 +1,6 @@
 -- `text_views::put_row` meets its contract: a word, then the numbers of the row. Assumes nothing.
 use mathlib.Core.Path.{◌≡◌, ◌∙◌}
 use native.Mathlib.Omega.{arith}
-use borrow.Author.Rules.{rules}
 use Rattle.words.specs.Rows.{row}
 use Rattle.text_views.proofs.Cells.{rows_few, row_cut}
 use Rattle.text_views.proofs.Pieces.{word_room, numbers_room, row_puts}

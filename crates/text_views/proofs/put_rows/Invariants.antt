@@ -1,15 +1,11 @@
 -- `text_views::put_rows` meets its contract: after k turns the first k rows are put. Assumes nothing.
 use Prim.Native.Nat.{◌≤◌, ◌-◌}
-use mathlib.Core.Path.{◌≡◌, refl}
-use native.Mathlib.Omega.{arith}
+use mathlib.Core.Path.{◌≡◌}
 use lib.ListN.{length}
-use borrow.Author.Rules.{rules}
 use Rattle.words.specs.Range.{gather}
 use Rattle.words.specs.Rows.{rows}
 use Rattle.text_puts.specs.Puts.{Puts}
-use Rattle.text_puts.proofs.Putting.{puts_none}
-use Rattle.text_puts.proofs.Pieces.{turn-room, turn_puts}
-use Rattle.text_views.specs.Views.{row_text, rows_text}
+use Rattle.text_views.specs.Views.{row_text}
 use Rattle.text_views.proofs.put_rows.Given as goal
 
 abbrev pub invariant-loop-k : goal.invariant-loop-k

@@ -1,5 +1,4 @@
 -- `text_views::put_verdict` meets its contract: one line or the other, by the width. Assumes nothing.
-use borrow.Author.Rules.{rules}
 use Rattle.text_puts.specs.Ascii.{ascii}
 use Rattle.text_puts.proofs.Putting.{room-left, puts_room, puts_more}
 use Rattle.text_views.proofs.Shapes.{verdict-agree, verdict_differ}

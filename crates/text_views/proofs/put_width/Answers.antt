@@ -1,5 +1,4 @@
 -- `text_views::put_width` meets its contract: the six pieces of its text, one after another. Assumes nothing.
-use borrow.Author.Rules.{rules}
 use Rattle.words.proofs.LineLayout.{line-some}
 use Rattle.words_runs.proofs.RunLayout.{run-some}
 use Rattle.text_puts.specs.Ascii.{ascii}
