@@ -1,5 +1,7 @@
 // The letters of primers as sets of bases, held as four bits: A 1, C 2, G 4, T 8, and 0 for a byte that is no letter of the code. A byte becomes its set and a set its letter
 // by a table; one set lies inside another by masking; the complement of a set is its bits moved. Each promises an equation over the definition.
+#![tactic(auto)]
+
 ghost use Rattle.std.specs.Prelude.{◌≡◌, ◌<◌};
 ghost use Rattle.words_primers.specs.Bases.{set_of, letter_for, matches as matchesIn, complement_of};
 ghost use Rattle.words_primers.specs.Primers.{turned};

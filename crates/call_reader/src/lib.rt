@@ -68,7 +68,7 @@ pub fn next<'s, 'a>(r: &'s mut LogReader<'a>) -> Entry
 
 // one call of a reader that is made at a place and lent: `next` for a caller that has only the slice and the number, and so no walk
 pub fn call_once(log: &[u16], at: usize) -> Taken
-    ensures { result ≡ reader_takes log.now at }
+    ensures taken { result ≡ reader_takes log.now at }
 {
     let mut r = LogReader { log, at };
     let entry = next(&mut r);

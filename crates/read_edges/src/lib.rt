@@ -1,5 +1,7 @@
 // What the calls share at their edges: the largest read, the last width of a read's log, and names written to the front of a lent slice. The
 // contracts settle each number of the slice.
+#![tactic(auto)]
+
 ghost use Rattle.std.specs.Prelude.{◌≡◌, ◌++◌, ◌≤◌, length, drop};
 ghost use Rattle.words.specs.Moves.{top_of};
 ghost use Rattle.slots.specs.Slots.{view};

@@ -1,6 +1,8 @@
 // What a base compares as: all that the library's code knows of N. `letter` gives the number by which the definition of `words` compares a byte at its
 // position; `last_alike` finds, from the left, the last position before that compares as a base does; `same_base` compares the bases of two positions.
 // Each promises an equation over the definition.
+#![tactic(auto)]
+
 ghost use Rattle.std.specs.Prelude.{◌≡◌, not, ◌&&◌, length, eqb};
 ghost use Rattle.words.specs.Reads.{unread, letter_of};
 ghost use Rattle.read_letters.specs.Seen.{latest, seen_with};

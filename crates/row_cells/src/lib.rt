@@ -1,5 +1,7 @@
 // Rows of c numbers in a slice, whatever c is: lines of a list, moves of a log and every row that is added later. How many there are, one of
 // them, a number of one, a row put in its place, and a slice cleared. A row's layout is not known here: `row_lines` and `row_moves` have it.
+#![tactic(auto)]
+
 ghost use Rattle.std.specs.Prelude.{◌≡◌, ◌+◌, ◌*◌, ◌≤◌, ◌<◌, length, replicate};
 ghost use Rattle.words.specs.Rows.{widest, rows, cell as cell_of, part as part_of};
 ghost use Rattle.row_cells.specs.Stored.{stored};

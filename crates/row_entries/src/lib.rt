@@ -1,5 +1,7 @@
 // An entry of the period index as the code has it, four numbers: how many there are, a number of one, and an entry written. No other code knows an entry's layout, and
 // no other row is of u64 numbers.
+#![tactic(auto)]
+
 ghost use Rattle.std.specs.Prelude.{◌≡◌, ◌+◌, ◌≤◌, ◌<◌, length};
 ghost use Rattle.words.specs.Rows.{rows, cell as cell_of};
 ghost use Rattle.words_index.specs.Index.{entry_of, entry_size};

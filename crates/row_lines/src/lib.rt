@@ -1,4 +1,6 @@
 // A line as the code has it: how many numbers it takes, which is which, a line written, and a line compared. No other code knows a line's layout.
+#![tactic(auto)]
+
 ghost use Rattle.std.specs.Prelude.{◌≡◌, ◌+◌, ◌≤◌, ◌<◌, length, take, drop};
 ghost use Rattle.words.specs.Rows.{rows};
 ghost use Rattle.words.specs.Reads.{same};

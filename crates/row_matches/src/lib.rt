@@ -1,5 +1,7 @@
 // A list of lines compared with the lines that should stand there, one after another as they are made: how far they agree, one line more, and whether nothing is left
 // over. The lines may come from anywhere: the bench makes them from groups and from runs.
+#![tactic(auto)]
+
 ghost use Rattle.std.specs.Prelude.{◌≡◌, ◌&&◌, ◌≤◌, length, eqb};
 ghost use Rattle.words.specs.Lists.{line_of};
 ghost use Rattle.row_matches.specs.Matching.{nothing, passed};

@@ -1,4 +1,6 @@
 // A move as the code has it: how many numbers it takes, which is which, and a move written. No other code knows a move's layout.
+#![tactic(auto)]
+
 ghost use Rattle.std.specs.Prelude.{◌≡◌, ◌+◌, ◌≤◌, ◌<◌, length};
 ghost use Rattle.words.specs.Rows.{rows};
 ghost use Rattle.words.specs.Moves.{move_of, move_size, width_cell, width_of, name_of, place_of};

@@ -1,4 +1,6 @@
 // A run as the code has it: how many numbers it takes, which is which, and a run written. No other code knows a run's layout.
+#![tactic(auto)]
+
 ghost use Rattle.std.specs.Prelude.{◌≡◌, ◌+◌, ◌≤◌, ◌<◌};
 ghost use Rattle.words.specs.Rows.{rows};
 ghost use Rattle.words_runs.specs.Runs.{run_of, run_size, run_period_cell, run_start, run_end, run_period};

@@ -1,5 +1,7 @@
 // A work room is an array of 1,000 numbers with a place for each position of a read, from 1. Places are read and written through `load` and `store`, so
 // that every contract above speaks of positions.
+#![tactic(auto)]
+
 ghost use Rattle.std.specs.Prelude.{◌≡◌, ◌≤◌};
 ghost use Rattle.words.specs.Reads.{at};
 ghost use Rattle.slots.specs.Slots.{put};

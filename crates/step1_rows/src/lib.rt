@@ -1,6 +1,8 @@
 // The arrays that a step works on are rows of one array, so that a function is lent one thing. A row has a place for each of 1,000 positions, from 1,
 // and is named by a constant; the first six are the partition's, the others are the scratch of a step. A store is an equation of the whole, and
 // whoever writes to some rows says that no other row is changed (`Only`).
+#![tactic(auto)]
+
 ghost use Rattle.std.specs.Prelude.{◌≡◌, ◌≤◌, ◌<◌};
 ghost use Rattle.words.specs.Reads.{at};
 ghost use Rattle.step1_rows.specs.Rows.{row, put_at};

@@ -1,5 +1,7 @@
 // One turn for each group that a position moved out of: what is left of it gets its name, which is its least position, and its size, and is the best
 // of the group's parts until another is weighed against it (step9_parts).
+#![tactic(auto)]
+
 ghost use Rattle.std.specs.Prelude.{List, [], ◌∷◌, ℕ, length};
 ghost use Rattle.step1_rows.specs.Rows.{row, Long, Only, NAME, SIZE, DIST, TAIL, MANY};
 ghost use Rattle.step8_groups.specs.Sweep.{Walkable, Swept};

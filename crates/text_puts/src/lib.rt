@@ -1,5 +1,7 @@
 // Words and numbers put into a buffer as text. Each function puts one piece of text at a place of the buffer and answers the place after
 // it; all other bytes stay as they were. What the texts say is for the crates above.
+#![tactic(auto)]
+
 ghost use Rattle.std.specs.Prelude.{◌≡◌, ◌<◌, length};
 ghost use Rattle.text_puts.specs.Numbers.{number_text, cell_text, numbers_text, ending as after};
 ghost use Rattle.text_puts.specs.Puts.{Room, Puts};
