@@ -1,5 +1,7 @@
 // What `list` answers for a line of standard input, once for both programs: its list is made in mode 0, and a line over the limit is refused with its true
 // length, however many bytes of it are kept. `hear` promises the answer and the list of whatever line it is (`Hears`).
+#![tactic(auto)]
+
 ghost use Rattle.std.specs.Prelude.{◌≤◌, length};
 ghost use Rattle.words.specs.Answers.{listed_says};
 ghost use Rattle.text_hears.specs.Heard.{Hears};
