@@ -39,7 +39,9 @@ fn all(pipes: Pipes, input: &mut [u8], line: &mut [u8], buf: &mut [u8]) -> Out
     let mut turns = text_streams::most_turns();
     while turns > 0 {
         s = step(pipes, input, line, buf, s);
-        if !text_streams::goes_on(s) {
+        let more = text_streams::goes_on(s);
+        let stopped = !more;
+        if stopped {
             return s.out;
         }
         turns -= 1;

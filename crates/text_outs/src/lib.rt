@@ -8,7 +8,7 @@ ghost use Rattle.text_outs.specs.Outputs.{next_place, Adds};
 use text_pipes::Pipes;
 
 // what is collected: `used` bytes of the output buffer; `ok` is false once a write failed
-#[derive(Drop)]
+#[derive(Clone, Copy)]
 pub struct Out {
     pub used: usize,
     pub ok: bool,

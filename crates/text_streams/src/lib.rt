@@ -13,7 +13,7 @@ use text_pipes::{Pipes, STDIN_FILENO};
 
 // where the input goes on: the bytes of the last read call from `from` to `end` are not taken yet, and `len` bytes of a line came before them;
 // `more` is false once the input has ended, or a read or a write failed
-#[derive(Drop)]
+#[derive(Clone, Copy)]
 pub struct Source {
     pub from: usize,
     pub end: usize,
@@ -22,7 +22,7 @@ pub struct Source {
 }
 
 // where a program stands between two turns
-#[derive(Drop)]
+#[derive(Clone, Copy)]
 pub struct State {
     pub source: Source,
     pub out: Out,
