@@ -1,5 +1,7 @@
 // The answers of the library's calls in the documents' numbers: the one place in code where a case becomes a number and its values (`marker_answers` has those of the marker calls).
 // What each case says stands in the definitions of words, specs/Answers.antt, and of words_index, words_runs, words_claims and words_primers, specs/Calls.antt; `plain` puts it side by side.
+#![tactic(auto)]
+
 ghost use Rattle.std.specs.Prelude.{◌≡◌};
 ghost use Rattle.words.specs.Answers.{listed_says, tabled_says, logged_says, replayed_says};
 ghost use Rattle.words.specs.Answers.{success as saysSuccess, both as saysBoth, refusal as saysRefusal};

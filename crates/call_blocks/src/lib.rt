@@ -1,5 +1,7 @@
 // The period index of a list that is in order, made block by block: the lines of a period stand together, and each block gives one entry. `index_lines` promises
 // the whole index, as far as the slice has room, and `count_entries` how many entries it has.
+#![tactic(auto)]
+
 ghost use Rattle.std.specs.Prelude.{◌≡◌, true, ◌<◌, max};
 ghost use Rattle.words.specs.Rows.{rows};
 ghost use Rattle.words.specs.Lists.{line_size};

@@ -2,6 +2,8 @@
 // `claim` promises the verdict that is true: refusal 1 for a read over the limit; else outside, then a shorter motif with its length, then yes or the copy count.
 // `motif` promises a part of the read, by its bytes and by where it starts: the motif of a yes, the root where `claim` names one, and else the empty part at the read's
 // front. `motif_part` gives its place and its count.
+#![tactic(auto)]
+
 ghost use Rattle.std.specs.Prelude.{◌≡◌, ◌+◌};
 ghost use Rattle.words_claims.specs.Claims.{outside};
 ghost use Rattle.words_claims.specs.Calls.{claimed_says, claim_answer, motif_length, motif as motifBytes, motif_from};

@@ -1,6 +1,8 @@
 // The words that a claim rests on, each decided for any read and any numbers: how often a motif stands in a row (`copies_at`), how long its primitive root is (`root_at`),
 // whether a repeat leads (`is_leading`). Each promises the definition of its word. They are meant for a start and a period from 1 on; at 0, and past the read's
 // end, they answer what the definition computes there, and so ask for nothing. Each compares no more bases than the read has, `root_at` less than four periods.
+#![tactic(auto)]
+
 ghost use Rattle.std.specs.Prelude.{◌≡◌, ◌+◌, ◌≤◌, ◌<◌, length};
 ghost use Rattle.words.specs.Reads.{at, alike};
 ghost use Rattle.words.specs.Repeats.{leads, copies as copies_of};
@@ -99,7 +101,7 @@ fn agree_inside(read: &[u8], i: usize, p: usize, d: usize) -> usize
 }
 
 // the length of the primitive root of the motif of a start and a period; of one that does not lie in the read it is the whole. Lengths are tried upwards, and none beyond
-// the half divides p. Where m bases agree and the next does not, no length up to m writes the motif (`jump-writes`); so each try costs less than the next
+// the half divides p. Where m bases agree and the next does not, no length up to m writes the motif (`jump_writes`); so each try costs less than the next
 // length that is tried, and all together less than the divisors of p add up to: less than 4 p bases
 pub fn root_at(read: &[u8], start: u32, period: u32) -> usize
     ensures { result ≡ root read.now start period }

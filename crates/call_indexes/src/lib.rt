@@ -1,4 +1,6 @@
 // The period index of a list alone. `index` answers any two slices; its contract settles the answer and the slice afterwards.
+#![tactic(auto)]
+
 ghost use Rattle.std.specs.Prelude.{◌≡◌};
 ghost use Rattle.words_index.specs.Calls.{index_answer, index_leaves, indexed_says};
 

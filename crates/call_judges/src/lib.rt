@@ -1,6 +1,8 @@
 // Judging a log that is handed in, for a read of any length up to 1,000: the first bad entry, and whether the log is well formed. One pass keeps
 // the last width at which each position moved: as long as all entries are good widths do not fall, so a position moves twice at a width exactly
 // when that is the last width seen of it.
+#![tactic(auto)]
+
 ghost use Rattle.std.specs.Prelude.{◌≡◌, true, ◌+◌, ◌≤◌, ◌<◌};
 ghost use Rattle.words.specs.Rows.{rows};
 ghost use Rattle.words.specs.Moves.{top_of, move_size};

@@ -1,4 +1,6 @@
 // A period looked up in an index, or in any slice: its first entry, or that there is none. One to three numbers left over at the end are no entry.
+#![tactic(auto)]
+
 ghost use Rattle.std.specs.Prelude.{◌≡◌};
 ghost use Rattle.words_index.specs.Index.{first_entry};
 ghost use Rattle.words_index.specs.Calls.{lookup_gives};

@@ -1,4 +1,6 @@
 // The moves of one width written to a log, from the queue that a step of the partition goes through, and the room that a log can need.
+#![tactic(auto)]
+
 ghost use Rattle.std.specs.Prelude.{◌≡◌, ◌+◌, ◌*◌, ◌≤◌, length};
 ghost use Rattle.words.specs.Moves.{move_size, log2, M};
 ghost use Rattle.row_cells.specs.Stored.{stored};

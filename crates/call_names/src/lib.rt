@@ -1,6 +1,8 @@
 // One position of a replay gets its new name. The groups split by marks, and the positions are met in order of the mark, then the position: `lead` has,
 // at the name of each old group, the leader of its part that was met last, which is the only one that can have more. `name_stayer` names a position that
 // stays, `name_mover` one that moves; `clean_one` takes away what the two left of a position.
+#![tactic(auto)]
+
 ghost use Rattle.std.specs.Prelude.{◌≡◌, not, ◌≤◌};
 ghost use Rattle.words.specs.Reads.{at};
 ghost use Rattle.slots.specs.Slots.{put};

@@ -1,4 +1,6 @@
 // Judging a list that is handed in: the first line out of place, and whether the list is strictly in the list's order and not cut. Only the order is judged.
+#![tactic(auto)]
+
 ghost use Rattle.std.specs.Prelude.{◌≡◌, ◌<◌};
 ghost use Rattle.words.specs.Rows.{rows};
 ghost use Rattle.words.specs.Lists.{line_size};

@@ -1,6 +1,8 @@
 // The rows of one period, read off the distances of the positions at that width: its lines or its runs, two ways to look at its starts. There is no read and no
 // partition here. `rows_at` is handed the starts as a set, which it empties, least first; it promises the rows of the period behind those that were there, as far as
 // the slice has room.
+#![tactic(auto)]
+
 ghost use Rattle.std.specs.Prelude.{◌≡◌, ◌+◌, ◌≤◌, length};
 ghost use Rattle.words.specs.Reads.{at};
 ghost use Rattle.row_cells.specs.Listing.{many, Adds};

@@ -1,4 +1,6 @@
 // Where a primer sits in a read, and its reverse complement. Both calls answer any slices; their contracts settle the answer and the slice afterwards.
+#![tactic(auto)]
+
 ghost use Rattle.std.specs.Prelude.{◌≡◌, ◌++◌, ◌≤◌, length, drop};
 ghost use Rattle.words_primers.specs.Primers.{reverse_complement};
 ghost use Rattle.words_primers.specs.Calls.{placed_says, find_answer, find_leaves, turned_says, turn_answer, turn_leaves};

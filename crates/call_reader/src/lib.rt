@@ -1,6 +1,8 @@
 // The log reader: it holds the lent log and the place reached, and each call gives the next whole entry as it stands and the place one further,
-// or says that the log has ended and keeps its place. One call is the definition `readerTakes`, for every log and every place. The work is done
+// or says that the log has ended and keeps its place. One call is the definition `reader_takes`, for every log and every place. The work is done
 // on the slice and the number, by `take_at`; over the struct there are only thin functions, whose proofs walk the code by hand.
+#![tactic(auto)]
+
 ghost use Rattle.std.specs.Prelude.{◌≡◌};
 ghost use Rattle.words.specs.Calls.{reader_takes};
 ghost use Rattle.call_reader.specs.Readers.{takes, placed};

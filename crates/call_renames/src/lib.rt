@@ -3,6 +3,8 @@
 // that names their group moves; the ones that move get theirs in the log's order, so that the first that is met of a part is its least. A width costs
 // its entries, and one pass over the positions if some group loses the position that names it. `mark` and `lead` hold nothing between widths: the entries
 // that set them clean them. The contract of `name_movers` asks for some table t that the names came from, and speaks of any such t.
+#![tactic(auto)]
+
 ghost use Rattle.std.specs.Prelude.{◌≡◌, List, false, ℕ, ◌+◌, ◌≤◌, ◌<◌, length};
 ghost use Rattle.words.specs.Rows.{rows};
 ghost use Rattle.words.specs.Moves.{move_size, name_of, place_of};

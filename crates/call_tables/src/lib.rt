@@ -1,6 +1,8 @@
 // The table of a read's groups at one width. `group_table` answers any read, any width and any slice, and promises document 01's answer and what it
 // leaves in the slice. The table is made by the steps of the partition's rows from width 1; they end early once nothing moves, since the groups
 // then stay as they are.
+#![tactic(auto)]
+
 ghost use Rattle.std.specs.Prelude.{◌≡◌, ◌++◌, ◌≤◌, length, drop};
 ghost use Rattle.words.specs.Groups.{table};
 ghost use Rattle.words.specs.Logs.{within};

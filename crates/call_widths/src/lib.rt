@@ -1,6 +1,8 @@
 // The walk over the widths, for all who look at each of them: the rows of the partition are made here, once, and what a width shows is read off its distances. Lines and runs
 // are two ways to look at a width. `look_widths` promises what is seen, as far as the slice has room, how many rows that is and at how many widths there are any;
 // `list_widths` says it of the lines of a mode, `count_widths` of their counts alone, `run_widths` of the runs.
+#![tactic(auto)]
+
 ghost use Rattle.std.specs.Prelude.{◌≡◌, ◌+◌, ◌≤◌, length, ltb};
 ghost use Rattle.words.specs.Range.{bit};
 ghost use Rattle.words.specs.Lists.{line_size, lines as lines_of, line_count, in_mode};

@@ -1,4 +1,6 @@
 // Two strings of bytes compared: is a line the motif, does the motif stand here? Bytes are compared as bytes; `same_bytes` promises the test of the definitions.
+#![tactic(auto)]
+
 ghost use Rattle.std.specs.Prelude.{◌≡◌};
 ghost use Rattle.words.specs.Reads.{same};
 

@@ -1,6 +1,8 @@
 // The leading repeats of a read that have a motif and lie between two positions. `fit` promises the only one, or that there is none or more than one. The motif gives the period, so
 // that the starts are tried one by one, without a list: the motif is compared with the bytes there, and only where it stands and leads are its copies counted. That a motif
 // is primitive is asked once, of the motif alone.
+#![tactic(auto)]
+
 ghost use Rattle.std.specs.Prelude.{◌≡◌, true, suc, ◌+◌, ◌-◌, ◌*◌, ◌≤◌, length};
 ghost use Rattle.words.specs.Range.{first};
 ghost use Rattle.words.specs.Reads.{most};

@@ -1,5 +1,7 @@
 // The house list: text with one motif a line, split at newlines, lines counted from 0. `house_place` promises where it has a marker, if it has it. It goes over the text once, and not
 // past its end, whatever the number.
+#![tactic(auto)]
+
 ghost use Rattle.std.specs.Prelude.{◌≡◌, ◌≤◌, length};
 ghost use Rattle.words_markers.specs.Houses.{line_end};
 ghost use Rattle.marker_houses.specs.Found.{line_found, house_place};

@@ -1,5 +1,7 @@
 // Where the two primers of a marker sit in a read, and what lies between them. `seat` judges by the refusals in their order, the library's own and then the marker's, each for
 // the left primer first, and promises the positions between or the first refusal. It goes over the read once for each primer.
+#![tactic(auto)]
+
 ghost use Rattle.std.specs.Prelude.{◌≡◌, ◌≤◌, length};
 ghost use Rattle.words.specs.Reads.{most};
 ghost use Rattle.words_primers.specs.Primers.{longest};

@@ -1,6 +1,8 @@
 // The groups of a read at one width, as a value that steps to the next. A partition holds the read's length, the width, the names of the groups, their
 // sizes, the links between their positions, the lists on which positions wait for their distance, and which groups are small: nothing of the read and
 // nothing of another width. It is thin: a step is made on rows (crate steps), which the list, the group table and the log keep from width to width.
+#![tactic(auto)]
+
 ghost use Rattle.std.specs.Prelude.{◌≡◌, ◌≤◌, ◌<◌, length};
 ghost use Rattle.words.specs.Steps.{step_width, step_table, step_smalls, step_count};
 ghost use Rattle.step1_rows.specs.Rows.{NAME, SIZE, PREV, DIST, HEAD, AFTER};

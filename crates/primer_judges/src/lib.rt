@@ -1,5 +1,7 @@
 // How a primer is judged before it is looked for: by its length (refusal 8), and then letter by letter (refusal 9). `good_length` and `first_foreign` promise the definitions that
 // these refusals are worded by.
+#![tactic(auto)]
+
 ghost use Rattle.std.specs.Prelude.{◌≡◌};
 ghost use Rattle.words.specs.Logs.{within};
 ghost use Rattle.words_primers.specs.Primers.{longest, first_foreign};

@@ -1,6 +1,8 @@
 // A primer looked for in a read, in one pass over the read whatever the primer is. The letters of the primer are bits of a word, bit k for letter k: `letting` gives, for each
 // set, the letters that let it in, and `scan` keeps a bit for each front of the primer that ends at the letter read last. `scan` promises the places, in order, as far as the
 // slice has room.
+#![tactic(auto)]
+
 ghost use Rattle.std.specs.Prelude.{◌≡◌, ◌≤◌, ◌<◌, length};
 ghost use Rattle.words_primers.specs.Primers.{longest, places};
 ghost use Rattle.row_cells.specs.Listing.{Listing};

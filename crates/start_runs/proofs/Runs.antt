@@ -17,22 +17,22 @@ use Rattle.words_runs.proofs.Runs.{Run, run_is, is_run, run-reach}
 use Rattle.words_runs.proofs.Starts.{Row, row-run, run_row}
 use Rattle.start_places.specs.Starts.{Near, Gapped}
 use Rattle.start_places.proofs.Starts.{no_start_beyond, start_gap, gap_start}
-use Rattle.start_runs.specs.Runs.{first_in, last_in, run_in_lem, runs_in}
+use Rattle.start_runs.specs.Runs.{first_in, last_in, run_in, runs_in}
 use Rattle.start_runs.proofs.Rows.{last_low, row-starts, row_ends}
 
 module _ (dist : List ℕ) (p : ℕ) where
   -- no start, no run
-  pub run_in_none : (i : ℕ) → at dist i ≢ p → run_in_lem dist p i ≡ []
-  unfolding run_in_lem
+  pub run_in_none : (i : ℕ) → at dist i ≢ p → run_in dist p i ≡ []
+  unfolding run_in
   run_in_none i ne = rw (ne_eqb (at dist i) p ne)
 
   -- nor where a start stands just before
-  pub run_in_later : (i : ℕ) → at dist i ≡ p → first_in dist p i ≡ false → run_in_lem dist p i ≡ []
-  unfolding run_in_lem
+  pub run_in_later : (i : ℕ) → at dist i ≡ p → first_in dist p i ≡ false → run_in dist p i ≡ []
+  unfolding run_in
   run_in_later i e f = rw (eq-eqb (at dist i) p e, f)
 
-  pub run_in_first : (i : ℕ) → at dist i ≡ p → first_in dist p i ≡ true → run_in_lem dist p i ≡ run_of i (last_in dist p i + 2 * p - 1) p
-  unfolding run_in_lem
+  pub run_in_first : (i : ℕ) → at dist i ≡ p → first_in dist p i ≡ true → run_in dist p i ≡ run_of i (last_in dist p i + 2 * p - 1) p
+  unfolding run_in
   run_in_first i e f = rw (eq-eqb (at dist i) p e, f)
 
   module _ (N : Near p dist) (x : List ℕ) (G : Gapped x p dist) where
@@ -82,8 +82,8 @@ module _ (dist : List ℕ) (p : ℕ) where
             let R = run-at i a e (and_right (eqb (at dist i) p) (first_in dist p i) t) in
             rw (run-reach x i (last_in dist p i + 2 * p - 1) p R) (is_run x i (last_in dist p i + 2 * p - 1) p R)
 
-    run_in_lem : (i : ℕ) → 1 ≤ i → row_if (run_begins x) (run_at x) p i ≡ run_in_lem dist p i
-    unfolding row_if run_at run_in_lem
+    run_in_lem : (i : ℕ) → 1 ≤ i → row_if (run_begins x) (run_at x) p i ≡ run_in dist p i
+    unfolding row_if run_at run_in
     run_in_lem i a = rw (begins_in i a) (go (eqb (at dist i) p) (first_in dist p i) refl refl)
       where
         go : (s t : Bool) → eqb (at dist i) p ≡ s → first_in dist p i ≡ t → cond (s && t) (run_of i (reach x p i) p) [] ≡ cond (s && t) (run_of i (last_in dist p i + 2 * p - 1) p) []
@@ -96,5 +96,5 @@ module _ (dist : List ℕ) (p : ℕ) where
     pub runs_in_lem : runs_at x p ≡ runs_in dist p
     unfolding runs_at rows_at runs_in
     runs_in_lem =
-        gather-same (row_if (run_begins x) (run_at x) p) (run_in_lem dist p) (length x) 1 (λ i a b. run_in_lem i a)
-        ∙ sym (gather_stop (run_in_lem dist p) (length x) 1000 1 G.few (λ i a b. run_in_none i (no_start_beyond dist p N x G i (omega arith))))
+        gather-same (row_if (run_begins x) (run_at x) p) (run_in dist p) (length x) 1 (λ i a b. run_in_lem i a)
+        ∙ sym (gather_stop (run_in dist p) (length x) 1000 1 G.few (λ i a b. run_in_none i (no_start_beyond dist p N x G i (omega arith))))

@@ -1,6 +1,8 @@
 // The run that begins at one start of a period, read off the distances of the positions at that width: the starts side by side from there on are all in it, and it
 // reaches two periods from the last of them. There is no read and no partition here. `run_one` promises the run, if one begins there, behind those that were there,
 // as far as the slice has room.
+#![tactic(auto)]
+
 ghost use Rattle.std.specs.Prelude.{◌≡◌, ◌+◌, ◌≤◌};
 ghost use Rattle.words.specs.Reads.{at};
 ghost use Rattle.words_runs.specs.Runs.{run_size};

@@ -1,6 +1,8 @@
 // Sets of places from 1 to 1,000, as bits of 64-bit words, lowest first, with a last word that says which of the others have any: a place is put in,
 // and the least is taken out, in constant time. `flags` has a set as 1,000 numbers, 1 for each place that is in it, and each contract is an equation
 // of these.
+#![tactic(auto)]
+
 ghost use Rattle.std.specs.Prelude.{◌≡◌, ◌≤◌};
 ghost use Rattle.slots.specs.Slots.{put, put_some};
 ghost use Rattle.step2_bits.specs.Sets.{flags, Sound, First};

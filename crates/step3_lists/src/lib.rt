@@ -2,6 +2,8 @@
 // width, and the list of d is looked at only at width d: so a position whose distance grows stays where it waits, on a list of a distance that it had, and
 // is filed on when that list's width comes. `change` gives a position a distance, `pass` empties the list of a width; neither takes a position out of the
 // middle of a list, so none has to know what is before it. `Waiting` says who has to be on a list at a width, and on which.
+#![tactic(auto)]
+
 ghost use Rattle.std.specs.Prelude.{◌≡◌, cond, [], ◌∷◌, suc, ◌≤◌, ◌<◌, eqb};
 ghost use Rattle.words.specs.Reads.{at};
 ghost use Rattle.slots.specs.Slots.{put};

@@ -1,5 +1,7 @@
 // The groups of width 1 of a read, made in rows of zeros: two positions share a group if they have the same letter. One way over the positions, from the
 // left, names and links each, counts it in its group, and makes every group small. What a letter is, `read_letters` alone knows.
+#![tactic(auto)]
+
 ghost use Rattle.std.specs.Prelude.{◌≡◌, ◌+◌, ◌≤◌, ◌<◌, length};
 ghost use Rattle.words.specs.Reads.{at};
 ghost use Rattle.slots.specs.Slots.{put};

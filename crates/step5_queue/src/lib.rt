@@ -1,5 +1,7 @@
 // The queue of a width: the positions that move, left of those of each small group, by name, then by position. `push_all` writes it to the row QUE and
 // leaves no group small.
+#![tactic(auto)]
+
 ghost use Rattle.std.specs.Prelude.{◌≡◌, List, [], ◌∷◌, ℕ, ◌+◌, ◌≤◌, length};
 ghost use Rattle.words.specs.Groups.{Least};
 ghost use Rattle.slots.specs.Slots.{view};

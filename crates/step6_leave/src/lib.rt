@@ -1,5 +1,7 @@
 // One position leaves its group for a part of it, in constant time: `take_out` takes it out of the links of its group, with the distances, and off
 // the group's size, and makes it the group's tail; then `begin_part` or `join` gives it a part.
+#![tactic(auto)]
+
 ghost use Rattle.std.specs.Prelude.{◌≡◌, ◌+◌, ◌-◌, ◌≤◌, ◌<◌};
 ghost use Rattle.words.specs.Reads.{at};
 ghost use Rattle.step1_rows.specs.Rows.{row, put_at, Long, SIZE, PREV, DIST, TAIL};

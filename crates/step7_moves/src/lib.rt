@@ -1,6 +1,8 @@
 // The pass of moves: each position of the queue leaves its group, in the queue's order, for the end of a part of that group. The tail of a group is the
 // last position that moved out of it: as the queue goes by the name of the right neighbour's group, a position joins its tail's part if both moved
 // under one name, or begins a part. A group of one is its own part, and does not move. One move takes constant time.
+#![tactic(auto)]
+
 ghost use Rattle.std.specs.Prelude.{◌≡◌, List, ℕ, suc, ◌≤◌, ◌<◌};
 ghost use Rattle.words.specs.Reads.{at};
 ghost use Rattle.slots.specs.Slots.{view};

@@ -1,5 +1,7 @@
 // One turn for each part that moved: it is weighed against the best part so far of its old group, and whichever loses is small; then it gets its size and
 // its name. Once all have had their turn, every part is small but the big one of its group.
+#![tactic(auto)]
+
 ghost use Rattle.std.specs.Prelude.{◌≡◌, List, ℕ, ◌≤◌};
 ghost use Rattle.words.specs.Reads.{at};
 ghost use Rattle.step1_rows.specs.Rows.{row, REST};

@@ -1,6 +1,8 @@
 // From width to width, on the rows: `begin` makes the groups of width 1 of a read, `advance` makes one step, and `onward` walks over the widths for
 // whoever looks at each of them. The queue of a width and its moves are two functions, since the log writes the moves between them. Before either, whoever
 // walks passes the list of the width (`step3_lists::pass`), where the lister finds its starts.
+#![tactic(auto)]
+
 ghost use Rattle.std.specs.Prelude.{◌≡◌, List, ℕ, suc, ◌+◌, ◌≤◌, ◌<◌, length};
 ghost use Rattle.slots.specs.Slots.{view};
 ghost use Rattle.step1_rows.specs.Rows.{row, NAME, QUE};

@@ -8,7 +8,7 @@ use lib.ListN.{length}
 use borrow.Author.Tests.{lt-ltb, le-ltb, eq-eqb, ne_eqb}
 use Rattle.words.specs.Reads.{most}
 use Rattle.words.specs.Logs.{within}
-use Rattle.words.specs.Calls.{too_long_lem}
+use Rattle.words.specs.Calls.{too_long}
 use Rattle.words_primers.specs.Primers.{longest, first_foreign, sits, places}
 use Rattle.words_primers.proofs.Places.{sits_means, places_exactly}
 use Rattle.words_markers.specs.Sites.{none, several, only, seat, behind, seated, seats}
@@ -77,22 +77,22 @@ module _ (x u v : List ℕ) where
 
 module _ (x u v : List ℕ) where
   pub too_long_lem : most < length x → seats x u v ≡ Seats.Not (Unscored.TooLong (length x))
-  unfolding seats too_long_lem
+  unfolding seats too_long
   too_long_lem h = rw (lt-ltb most (length x) h)
 
   module _ (few : length x ≤ most) where
     pub left-length : within 1 longest (length u) ≡ false → seats x u v ≡ Seats.Not (Unscored.BadLength (length u))
-    unfolding seats too_long_lem
+    unfolding seats too_long
     left-length a = rw (le-ltb most (length x) few, a)
 
     module _ (a : within 1 longest (length u) ≡ true) where
       pub right_length : within 1 longest (length v) ≡ false → seats x u v ≡ Seats.Not (Unscored.BadLength (length v))
-      unfolding seats too_long_lem
+      unfolding seats too_long
       right_length b = rw (le-ltb most (length x) few, a, b)
 
       module _ (b : within 1 longest (length v) ≡ true) where
         pub left-foreign : first_foreign u < length u → seats x u v ≡ Seats.Not (Unscored.Foreign (first_foreign u))
-        unfolding seats too_long_lem
+        unfolding seats too_long
         left-foreign c = rw (le-ltb most (length x) few, a, b, lt-ltb (first_foreign u) (length u) c)
 
         module _ (c : length u ≤ first_foreign u) where

@@ -10,10 +10,10 @@ use Rattle.start_lines.proofs.walk.Goals.{In-loop-e}
 use Rattle.start_lines.proofs.walk.Goals as goal
 
 -- in a turn j is a start
-start : (c : In-loop-e invariant-loop decreases-loop) → at c.args.dist.now c.loop-e.j ≡ c.args.p
+start : (c : In-loop-e) → at c.args.dist.now c.loop-e.j ≡ c.args.p
 start c = sym c.load.ensures ∙ c.loop-e-test.true
 
-more : (c : In-loop-e invariant-loop decreases-loop) → c.loop-e.j + c.args.p ≤ 1000
+more : (c : In-loop-e) → c.loop-e.j + c.args.p ≤ 1000
 more c =
     let L = c.loop-e in
     c.requires.0.inside L.j L.invariant.0 L.invariant.1 (start c)

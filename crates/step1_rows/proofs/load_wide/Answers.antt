@@ -1,4 +1,3 @@
-
 use borrow.Author.Rules.{rules}
 use Rattle.words.specs.Reads.{at}
 use Rattle.step1_rows.specs.Rows.{row}

@@ -1,4 +1,3 @@
-
 use borrow.Author.Rules.{rules}
 use Rattle.slots.specs.Slots.{put}
 use Rattle.step1_rows.specs.Rows.{row, put_at}

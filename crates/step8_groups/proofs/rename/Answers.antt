@@ -12,7 +12,7 @@ use Rattle.step8_groups.proofs.rename.Goals.{In-loop-d}
 use Rattle.step8_groups.proofs.rename.Goals as goal
 
 -- the walk stays within the array
-walk_inside : (c : In-loop-d invariant-loop decreases-loop) → (1 ≤ c.loop-d.j + c.loop-d.d) × (c.loop-d.j + c.loop-d.d ≤ 1000)
+walk_inside : (c : In-loop-d) → (1 ≤ c.loop-d.j + c.loop-d.d) × (c.loop-d.j + c.loop-d.d ≤ 1000)
 walk_inside c =
     let s = c in
     let W = s.requires.1 in
@@ -33,7 +33,7 @@ pub load_wide-d-requires-in-loop-d : goal.load_wide-d-requires-in-loop-d
 load_wide-d-requires-in-loop-d c = omega (arith, walk_inside (goal.at.load_wide-d-requires-in-loop-d c).In-loop-d, c.loop-d-test.true)
 
 pub loop-d-smaller : goal.loop-d-smaller
-loop-d-smaller c = let i = c in omega (arith, walk_inside i, i.loop-d-test.true)
+loop-d-smaller c = let i = c in omega (arith, walk_inside (goal.at.loop-d-smaller c).In-loop-d, i.loop-d-test.true)
 
 pub loop-d-preserved : goal.loop-d-preserved
 loop-d-preserved c =

@@ -1,0 +1,20 @@
+-- `call_answers::tabled` meets its contract, case by case. Assumes nothing.
+use Rattle.words.specs.Answers.{tabled_says}
+use borrow.Author.Rules.{rules}
+use Rattle.call_answers.proofs.tabled.Goals as goal
+
+pub returns-in-Names : goal.returns-in-Names
+unfolding tabled_says
+returns-in-Names c = rw c.in-Names.is c.success.ensures
+
+pub returns-in-TooLong : goal.returns-in-TooLong
+unfolding tabled_says
+returns-in-TooLong c = rw c.in-TooLong.is c.refusal.ensures
+
+pub returns-in-BadWidth : goal.returns-in-BadWidth
+unfolding tabled_says
+returns-in-BadWidth c = rw c.in-BadWidth.is c.refusal-in-BadWidth.ensures
+
+pub returns-in-NoRoom : goal.returns-in-NoRoom
+unfolding tabled_says
+returns-in-NoRoom c = rw c.in-NoRoom.is c.refusal-in-NoRoom.ensures

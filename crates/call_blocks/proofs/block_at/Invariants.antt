@@ -1,0 +1,16 @@
+-- `call_blocks::block_at` meets its contract. The loop's invariant: the lines from k to below j have one period; the measure is how many lines are left.
+-- Assumes nothing.
+use Prim.Native.Nat.{◌-◌}
+use mathlib.Core.Path.{◌≡◌, sym, ◌∙◌}
+use native.Mathlib.Omega.{arith}
+use borrow.Author.Rules.{rules}
+use Rattle.words.specs.Rows.{rows}
+use Rattle.words.specs.Lists.{line_size, period_of}
+use Rattle.call_blocks.proofs.Growing.{Grows, grows_one, grows_more, grows_ended}
+use Rattle.call_blocks.proofs.block_at.Given as goal
+
+abbrev pub invariant-loop-j : goal.invariant-loop-j
+invariant-loop-j l = (l.count ≡ rows line_size l.list) × (l.p ≡ period_of l.list l.k) × Grows l.list l.k l.j l.most
+
+abbrev pub decreases-loop-j : goal.decreases-loop-j
+decreases-loop-j l = l.count - l.j

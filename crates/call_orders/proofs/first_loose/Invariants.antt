@@ -1,0 +1,20 @@
+-- `call_orders::first_loose` meets its contract. The loop's invariant: the first k lines are in their places; the measure is how many lines are left.
+-- Assumes nothing.
+use Prim.Native.Nat.{◌-◌, ◌≤◌}
+use mathlib.Core.Path.{◌≡◌, refl, sym, ap, ◌∙◌}
+use mathlib.Core.Bool.{not}
+use native.Mathlib.Omega.{arith}
+use borrow.Author.Rules.{rules}
+use borrow.Author.Tests.{not-true, not-false}
+use Rattle.words.specs.Rows.{rows}
+use Rattle.words.specs.Lists.{line_size}
+use Rattle.words.proofs.Searches.{Missed, missed_none, missed_more}
+use Rattle.words_index.specs.Index.{placed}
+use Rattle.call_orders.proofs.Judging.{loose_here, loose_none}
+use Rattle.call_orders.proofs.first_loose.Given as goal
+
+abbrev pub invariant-loop-k : goal.invariant-loop-k
+invariant-loop-k l = (l.whole ≡ rows line_size l.list) × (l.k ≤ l.whole) × Missed (λ h. not (placed l.list h)) 0 l.k
+
+abbrev pub decreases-loop-k : goal.decreases-loop-k
+decreases-loop-k l = l.whole - l.k

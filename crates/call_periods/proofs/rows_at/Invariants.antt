@@ -1,0 +1,16 @@
+-- `call_periods::rows_at` meets its contract. The loop's invariant: the rows of the places before the next start are written, and what the lines
+-- ask for is kept; the measure is how many places are left. Assumes nothing.
+use Prim.Native.Nat.{◌-◌, ◌≤◌}
+use mathlib.Core.Path.{◌≡◌}
+use native.Mathlib.Omega.{arith}
+use Rattle.step2_bits.specs.Sets.{flags, Sound}
+use Rattle.step2_bits.proofs.Flags.{flags-length}
+use Rattle.step2_bits.proofs.Emptying.{done, taken_empty, taken_less}
+use Rattle.call_periods.proofs.Turns.{Turn, turn-first, turn_few, turn_start, turn-kept, turn-next, turn_last}
+use Rattle.call_periods.proofs.rows_at.Given as goal
+
+abbrev pub invariant-loop-i : goal.invariant-loop-i
+invariant-loop-i l = Sound l.starts × Turn l.dist l.runs l.mode l.p l.prior l.initial.out l.i l.k l.out l.count (flags l.starts)
+
+abbrev pub decreases-loop-i : goal.decreases-loop-i
+decreases-loop-i l = 1000 - done l.i

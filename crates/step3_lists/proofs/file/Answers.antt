@@ -1,0 +1,11 @@
+-- `file` meets its contract: its stores are the definition. Assumes nothing.
+use mathlib.Core.Path.{refl}
+use Rattle.step3_lists.specs.Filed.{filed_at}
+use Rattle.step3_lists.proofs.file.Goals as goal
+
+pub returns : goal.returns
+unfolding filed_at
+returns c =
+    let after = c in
+    let l = after in
+    rw (c.store-2.ensures, after.store.ensures, l.load-h.ensures) refl
