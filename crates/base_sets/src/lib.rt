@@ -3,7 +3,7 @@
 #![tactic(auto)]
 
 ghost use Rattle.std.specs.Prelude.{◌≡◌, ◌<◌};
-ghost use Rattle.words_primers.specs.Bases.{set_of, letter_for, matches as matchesIn, complement_of};
+ghost use Rattle.words_primers.specs.Bases.{set_of, letter_for, matches as matches_in, complement_of};
 ghost use Rattle.words_primers.specs.Primers.{turned};
 ghost use Rattle.base_sets.specs.Sets.{letter_sets};
 
@@ -59,7 +59,7 @@ fn letter_for(set: u8) -> u8
 // does a read letter of one set match a primer letter of the other? The empty set, which would pass the mask, is no letter's
 pub fn matches(read: u8, primer: u8) -> bool
     requires { (read < 16) × (primer < 16) }
-    ensures { result ≡ matchesIn read primer }
+    ensures { result ≡ matches_in read primer }
 {
     if read == 0 {
         return false;

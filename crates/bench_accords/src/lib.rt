@@ -1,5 +1,7 @@
 // The bench's own check that a list and a list of runs agree: the lines that the runs give, one after another, are compared with the list's. It looks at the two lists
 // alone, and its code is apart from the lister's, but for the layout of a row. `crates/words_agree` has what agreeing means.
+#![tactic(auto)]
+
 ghost use Rattle.std.specs.Prelude.{◌≡◌, ◌^◌, ◌≤◌, ◌<◌, length};
 ghost use Rattle.words_agree.specs.Agree.{whole_periods};
 ghost use Rattle.words_agree.specs.Lists.{lines_by, agree};

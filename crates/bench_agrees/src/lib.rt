@@ -1,5 +1,7 @@
 // The bench's own check that the list's lines of one period are those that the groups of that width give, code apart from the lister's; and
 // the rows of one width in a log, a list or the runs. Each public function promises what its definition in specs/ says, for every slice.
+#![tactic(auto)]
+
 ghost use Rattle.std.specs.Prelude.{◌≡◌, ◌+◌, ◌≤◌, ◌<◌, length};
 ghost use Rattle.words.specs.Rows.{rows};
 ghost use Rattle.words.specs.Groups.{gap as distance};

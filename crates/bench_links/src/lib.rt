@@ -1,6 +1,8 @@
 // Where the next position of a group stands in a table of names. `link` finds it once for every name and every position, in one pass;
 // `first_of` and `next_of` then look it up. A table that the arrays do not fit (more than 1,000 names, or a name that is no position of it)
 // gets no links, and is searched: no read has such a table, but the contracts hold for every slice.
+#![tactic(auto)]
+
 ghost use Rattle.std.specs.Prelude.{◌≡◌, true, ◌≤◌, ◌<◌, length};
 ghost use Rattle.words.specs.Reads.{at};
 ghost use Rattle.slots.specs.Slots.{put};

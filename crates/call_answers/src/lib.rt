@@ -4,7 +4,7 @@
 
 ghost use Rattle.std.specs.Prelude.{◌≡◌};
 ghost use Rattle.words.specs.Answers.{listed_says, tabled_says, logged_says, replayed_says};
-ghost use Rattle.words.specs.Answers.{success as saysSuccess, both as saysBoth, refusal as saysRefusal};
+ghost use Rattle.words.specs.Answers.{success as says_success, both as says_both, refusal as says_refusal};
 ghost use Rattle.words_index.specs.Calls.{indexed_says, list_indexed_says};
 ghost use Rattle.words_index.specs.declared.Looked.{Looked};
 ghost use Rattle.words_runs.specs.Calls.{runs_listed_says};
@@ -52,7 +52,7 @@ pub struct Found {
 
 // a success that returns one value
 fn success(value: usize) -> Answer
-    ensures { result ≡ plain (saysSuccess value) }
+    ensures { result ≡ plain (says_success value) }
 {
     Answer {
         number: 0,
@@ -63,7 +63,7 @@ fn success(value: usize) -> Answer
 
 // a success that returns two
 fn both(value: usize, more: usize) -> Answer
-    ensures { result ≡ plain (saysBoth value more) }
+    ensures { result ≡ plain (says_both value more) }
 {
     Answer {
         number: 0,
@@ -74,7 +74,7 @@ fn both(value: usize, more: usize) -> Answer
 
 // a refusal that returns one value
 pub fn refusal(number: u32, value: usize) -> Answer
-    ensures { result ≡ plain (saysRefusal number value) }
+    ensures { result ≡ plain (says_refusal number value) }
 {
     Answer {
         number,

@@ -6,7 +6,7 @@
 
 ghost use Rattle.std.specs.Prelude.{◌≡◌, ◌+◌};
 ghost use Rattle.words_claims.specs.Claims.{outside};
-ghost use Rattle.words_claims.specs.Calls.{claimed_says, claim_answer, motif_length, motif as motifBytes, motif_from};
+ghost use Rattle.words_claims.specs.Calls.{claimed_says, claim_answer, motif_length, motif as motif_bytes, motif_from};
 ghost use Rattle.call_claims.specs.Parts.{motif_part};
 
 use call_copies::{copies_at, root_at};
@@ -70,7 +70,7 @@ fn motif_length(read: &[u8], start: u32, period: u32, copies: u32) -> usize
 // the motif of a true claim, or the root of one that is a shorter motif repeated, as that part of the read; and else the empty part at the read's front. Equal bytes can
 // stand at other places of the read, so the contract says besides the bytes where the part starts: in the read's block, so many bytes after its start
 pub fn motif<'a>(read: &'a [u8], start: u32, period: u32, copies: u32) -> &'a [u8]
-    ensures { (result.now ≡ motifBytes read.now start period copies)
+    ensures { (result.now ≡ motif_bytes read.now start period copies)
         × (result.ref_ptr.0 ≡ read.entry.ref_ptr.0)
         × (result.ref_ptr.1 ≡ read.entry.ref_ptr.1 + motif_from read.now start period copies) }
 {

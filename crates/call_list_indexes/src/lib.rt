@@ -1,6 +1,8 @@
 // The list of a read's repeats and the period index beside it, in one call. `list_index` answers any read, mode and slices; its contract settles the answer and
 // both slices afterwards. Refusal 7 leaves the list as it was too, so both counts are known before a line is written: where the index has room for an entry
 // of each width that refusal cannot come, and the list is made at once; else the lines and the periods are counted first.
+#![tactic(auto)]
+
 ghost use Rattle.std.specs.Prelude.{◌≡◌, ◌≤◌, length};
 ghost use Rattle.words.specs.Rows.{rows};
 ghost use Rattle.words.specs.Lists.{lines as lines_of, in_mode};

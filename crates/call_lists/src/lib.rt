@@ -1,4 +1,6 @@
 // The list of a read's repeats. `list` answers any read, mode and slice; its contract settles the answer and the slice afterwards.
+#![tactic(auto)]
+
 ghost use Rattle.std.specs.Prelude.{◌≡◌};
 ghost use Rattle.words.specs.Answers.{listed_says};
 ghost use Rattle.words.specs.Calls.{list_answer, list_leaves};

@@ -2,6 +2,8 @@
 // `log` promises refusal 1 for a read over the limit, refusal 4 for a slice without room for M(n) moves, and else the log at the front,
 // the rest as it was, and the number of moves. The moves of a width are its queue, which the step then goes through, so they are written between
 // the two halves of the step.
+#![tactic(auto)]
+
 ghost use Rattle.std.specs.Prelude.{◌≡◌, ◌*◌, ◌≤◌, length};
 ghost use Rattle.words.specs.Moves.{move_size, M};
 ghost use Rattle.words.specs.Answers.{logged_says};

@@ -1,6 +1,6 @@
 // The log reader: it holds the lent log and the place reached, and each call gives the next whole entry as it stands and the place one further,
 // or says that the log has ended and keeps its place. One call is the definition `reader_takes`, for every log and every place. The work is done
-// on the slice and the number, by `take_at`; over the struct there are only thin functions, whose proofs walk the code by hand.
+// on the slice and the number, by `take_at`; over the struct there are only thin functions.
 #![tactic(auto)]
 
 ghost use Rattle.std.specs.Prelude.{◌≡◌};
@@ -68,7 +68,7 @@ pub fn next<'s, 'a>(r: &'s mut LogReader<'a>) -> Entry
     t.entry
 }
 
-// one call of a reader that is made at a place and lent: `next` for a caller that has only the slice and the number, and so no walk
+// one call of a reader that is made at a place and lent: `next` for a caller that has only the slice and the number
 pub fn call_once(log: &[u16], at: usize) -> Taken
     ensures taken { result ≡ reader_takes log.now at }
 {

@@ -1,6 +1,8 @@
 // The replay of a log that is handed in. `replay` refuses what document 01 says, in its order, and else writes the table of groups at the asked width
 // by the replay rule, for any read, log, width and slice. The whole log is judged first, by `call_judges`. The groups start as those of width 1, and
 // `call_renames` goes on from width to width, in place.
+#![tactic(auto)]
+
 ghost use Rattle.std.specs.Prelude.{◌≡◌, not, ◌||◌, ◌≤◌, length, eqb};
 ghost use Rattle.words.specs.Groups.{table};
 ghost use Rattle.words.specs.Moves.{top_of};

@@ -10,7 +10,7 @@ use Rattle.words.specs.Reads.{most}
 use Rattle.words.specs.Rows.{rows}
 use Rattle.words.specs.Answers.{Answer, success, refusal}
 use Rattle.words.specs.Calls.{refuse, too_long, afterwards, list_afterwards}
-use Rattle.words_runs.specs.Runs.{run_size, runs as runsOf, run_count}
+use Rattle.words_runs.specs.Runs.{run_size, runs as runs_of, run_count}
 use Rattle.words_runs.specs.Calls.{runs_listed_says, runs_answer, runs_leaves}
 use Rattle.words_runs.specs.declared.RunsListed.{RunsListed}
 use Rattle.words_runs.proofs.RunLayout.{run-some}
@@ -26,19 +26,19 @@ module _ (x out : List ℕ) where
   unfolding runs_listed_says runs_answer runs_leaves list_afterwards afterwards refuse too_long refusal
   long_said l = (rw (lt-ltb most (length x) l), rw (lt-ltb most (length x) l))
 
-  module _ (few : length x ≤ most) (r : ℕ) (out' : List ℕ) (L : Listing run_size out (runsOf x) r out') where
+  module _ (few : length x ≤ most) (r : ℕ) (out' : List ℕ) (L : Listing run_size out (runs_of x) r out') where
     pub short_said : rows run_size out' < r → Says x out (RunsListed.ListFull r) (replicate (length out') 0)
     unfolding runs_listed_says runs_answer runs_leaves list_afterwards afterwards refuse too_long refusal run_count
     short_said l =
-        let t = listing_short run_size out (runsOf x) out' r run-some L l in
-        (rw (le-ltb most (length x) few, t, listing_rows run_size out (runsOf x) out' r run-some L), rw (le-ltb most (length x) few, t, L.same))
+        let t = listing_short run_size out (runs_of x) out' r run-some L l in
+        (rw (le-ltb most (length x) few, t, listing_rows run_size out (runs_of x) out' r run-some L), rw (le-ltb most (length x) few, t, L.same))
 
     pub runs_said : r ≤ rows run_size out' → Says x out (RunsListed.Runs r) out'
     unfolding runs_listed_says runs_answer runs_leaves list_afterwards afterwards refuse too_long success run_count
     runs_said l =
-        let t = listing_fits run_size out (runsOf x) out' r run-some L l in (
-          rw (le-ltb most (length x) few, t, listing_rows run_size out (runsOf x) out' r run-some L),
-          rw (le-ltb most (length x) few, t) (listing_front run_size out (runsOf x) out' r run-some L l),
+        let t = listing_fits run_size out (runs_of x) out' r run-some L l in (
+          rw (le-ltb most (length x) few, t, listing_rows run_size out (runs_of x) out' r run-some L),
+          rw (le-ltb most (length x) few, t) (listing_front run_size out (runs_of x) out' r run-some L l),
         )
 
 -- an answer read back

@@ -1,4 +1,6 @@
 // The runs of a read, with the partial copy. `runs` answers any read and slice; its contract settles the answer and the slice afterwards.
+#![tactic(auto)]
+
 ghost use Rattle.std.specs.Prelude.{◌≡◌};
 ghost use Rattle.words_runs.specs.Calls.{runs_listed_says, runs_answer, runs_leaves};
 

@@ -7,7 +7,7 @@ ghost use Rattle.std.specs.Prelude.{◌≡◌, ◌+◌, ◌≤◌, length, ltb};
 ghost use Rattle.words.specs.Range.{bit};
 ghost use Rattle.words.specs.Lists.{line_size, lines as lines_of, line_count, in_mode};
 ghost use Rattle.words_index.specs.Index.{entry_count};
-ghost use Rattle.words_runs.specs.Runs.{run_size, runs as runsOf};
+ghost use Rattle.words_runs.specs.Runs.{run_size, runs as runs_of};
 ghost use Rattle.row_cells.specs.Listing.{Listing};
 ghost use Rattle.call_periods.specs.Periods.{row_size};
 ghost use Rattle.call_widths.specs.Looks.{looked, seen_at};
@@ -84,7 +84,7 @@ pub fn count_widths(read: &[u8], mode: u32) -> Tally
 // the runs of a read, as far as there is room; returns how many there are
 pub fn run_widths(out: &mut [u16], read: &[u8]) -> usize
     requires { length read.now ≤ 1000 }
-    ensures { Listing run_size out.old (runsOf read.now) result out.new }
+    ensures { Listing run_size out.old (runs_of read.now) result out.new }
 {
     look_widths(out, read, true, 0).rows
 }

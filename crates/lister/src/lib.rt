@@ -2,6 +2,8 @@
 // u32 is answered. What each answers and leaves in each slice stands in specs/Calls.antt of crates/words, words_index, words_runs, words_claims and words_primers;
 // docs/CONTRACTS.md has a row for each.
 // proofs/Demands.antt has the three theorems that a reader should open first; beside them, proofs/Agreement.antt says that what `list` in mode 0 and `runs` write agrees.
+#![tactic(auto)]
+
 pub use call_claims::{claim, motif};
 pub use call_indexes::index;
 pub use call_list_indexes::list_index;

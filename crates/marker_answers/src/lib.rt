@@ -1,4 +1,6 @@
 // The answer of `score` in document 02's numbers, as `call_answers` has those of the library's calls: its number, its value and, as the second value, the signed difference.
+#![tactic(auto)]
+
 ghost use Rattle.std.specs.Prelude.{◌≡◌};
 ghost use Rattle.words_markers.specs.Calls.{unscored_says, scored_says};
 ghost use Rattle.call_answers.specs.Plain.{plain};

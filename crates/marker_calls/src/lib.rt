@@ -2,10 +2,12 @@
 // Both answer any input, and go by one definition, `site`: the only repeat that is scored, or the first refusal in the order.
 // `score` promises its copies and their signed difference from the reference, or the refusal. `shown` promises the motif, uncopied, as a part of one of the two lent slices, by its
 // bytes, its slice and its place: of the house list if that has the marker, otherwise of the read; of a read not scored the empty part at its front. `shown_part` gives slice, place and count.
+#![tactic(auto)]
+
 ghost use Rattle.std.specs.Prelude.{◌≡◌, cond, ◌+◌, ◌≤◌};
 ghost use Rattle.words.specs.Reads.{most};
 ghost use Rattle.words_markers.specs.Sites.{site};
-ghost use Rattle.words_markers.specs.Calls.{scored_says, score_of, score_answer, shown as shownAt, of_house, from_of, part_of};
+ghost use Rattle.words_markers.specs.Calls.{scored_says, score_of, score_answer, shown as shown_at, of_house, from_of, part_of};
 ghost use Rattle.marker_calls.specs.Parts.{shown_part};
 
 use call_copies::copies_at;
@@ -65,7 +67,7 @@ fn place_shown(
     right: &[u8],
     motif: &[u8],
 ) -> Shown
-    ensures { result ≡ shownAt read.now house.now number left.now right.now motif.now }
+    ensures { result ≡ shown_at read.now house.now number left.now right.now motif.now }
 {
     let Site::At(i) = find_site(read, left, right, motif) else {
         return Shown::Nothing;
@@ -87,7 +89,7 @@ pub fn shown<'a>(
     right: &[u8],
     motif: &[u8],
 ) -> &'a [u8]
-    ensures { let s = shownAt read.now house.now number left.now right.now motif.now in
+    ensures { let s = shown_at read.now house.now number left.now right.now motif.now in
         (result.now ≡ part_of read.now house.now motif.now s)
         × (result.ref_ptr.0 ≡ (cond (of_house s) house.entry read.entry).ref_ptr.0)
         × (result.ref_ptr.1 ≡ (cond (of_house s) house.entry read.entry).ref_ptr.1 + from_of s) }
@@ -114,7 +116,7 @@ pub fn shown_part(
     right: &[u8],
     motif: &[u8],
 ) -> ShownPart
-    ensures { result ≡ shown_part motif.now (shownAt read.now house.now number left.now right.now motif.now) }
+    ensures { result ≡ shown_part motif.now (shown_at read.now house.now number left.now right.now motif.now) }
 {
     let count = motif.len();
     match place_shown(read, house, number, left, right, motif) {

@@ -1,4 +1,6 @@
 // Runs the calls of document 02, item 1, at the edges of each refusal and on refusals in combination, with the slices before and after.
+#![tactic(auto)]
+
 ghost use Rattle.std.specs.Prelude.{◌≤◌};
 
 use run_prints::{answer, answer_both, number, slice, slice_wide, word};

@@ -1,6 +1,9 @@
 // What the program that runs the calls prints: words, numbers, slices, and answers in the documents' numbers; and a read of every byte.
+#![tactic(auto)]
+
 use call_answers::Answer;
-use libc::STDOUT_FILENO;
+
+const STDOUT_FILENO: i32 = 1;
 
 pub fn word(text: &[u8]) {
     io::write_all(STDOUT_FILENO, text);

@@ -1,5 +1,7 @@
 // One call of each kind of document 01, on a slice of so many sevens: the slice before, the answer in the documents' numbers, the slice after. A number
 // written past the front, or a slice zeroed by mistake, is seen.
+#![tactic(auto)]
+
 ghost use Rattle.std.specs.Prelude.{◌≤◌};
 
 use run_prints::{answer, slice, word};

@@ -2,6 +2,8 @@
 // A slice is a pointer and a count. Each call promises what the same call of the library does, by the same definitions: `plain` puts an
 // answer into document 01's number (0 for success, else the refusal) and values, and the slice afterwards is a definition of the inputs.
 // None has a `requires`.
+#![tactic(auto)]
+
 ghost use Rattle.std.specs.Prelude.{◌≡◌};
 ghost use Rattle.words.specs.Calls.{list_answer, list_leaves, table_answer, table_leaves, log_answer, log_leaves};
 ghost use Rattle.words.specs.Calls.{replay_answer, replay_leaves, reader_takes};

@@ -1,5 +1,7 @@
 // The bytes of a read as the bench shows them: each stands for itself, or for a backslash, x and two digits, so that no terminal obeys one.
 // Each function promises its text byte by byte, the place after it, and that the rest of the buffer is as it was.
+#![tactic(auto)]
+
 ghost use Rattle.std.specs.Prelude.{◌≡◌};
 ghost use Rattle.text_puts.specs.Puts.{Room, Puts};
 ghost use Rattle.text_bytes.specs.Bytes.{plain_byte, digits_text, byte_text, bytes_text};

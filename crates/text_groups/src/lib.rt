@@ -1,6 +1,8 @@
 // The text of the groups of one width, from their table: the groups of two or more, each on a line, and then the positions that are alone.
 // The table is linked first, so that no name and no position is looked for twice. Each function promises its text byte by byte, the place
 // after it, and that the rest of the buffer is as it was.
+#![tactic(auto)]
+
 ghost use Rattle.std.specs.Prelude.{◌≡◌, ◌++◌, ◌+◌, ◌^◌, ◌<◌, min, length};
 ghost use Rattle.words.specs.Range.{bit, count};
 ghost use Rattle.words.specs.Groups.{size};

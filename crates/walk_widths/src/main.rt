@@ -1,11 +1,16 @@
 // Steps each read of standard input, one a line, through all its widths, and prints at each width the group table, the names of the small
 // groups and the number of moves. A read over the limit is passed over.
+#![tactic(auto)]
+
 ghost use Rattle.std.specs.Prelude.{◌≡◌, ◌+◌, ◌≤◌, ◌<◌, length};
 ghost use Rattle.step2_bits.specs.Sets.{Sound};
 ghost use Rattle.partition.specs.Stand.{Good};
 
-use libc::{STDIN_FILENO, STDOUT_FILENO};
 use partition::{Partition, Stepped};
+
+const STDIN_FILENO: i32 = 0;
+
+const STDOUT_FILENO: i32 = 1;
 
 fn word(text: &[u8]) {
     io::write_all(STDOUT_FILENO, text);

@@ -1,5 +1,6 @@
 // The words of document 02, item 7, "Marker scoring, a crate above", and the theory over them. There is no code here: specs/ has the definitions, proofs/ the laws and
 // theorems, and this file the kinds of answer. What each case says in the document's numbers stands in specs/Calls.antt.
+#![tactic(auto)]
 
 // Why a read is not scored: the library's own refusals, and then those of the marker. `Missing` and `MoreThanOnce` tell the primer: 1 for the left one, else 2.
 #[derive(Drop)]

@@ -1,5 +1,6 @@
 // The words of document 02, item 6, "Primer search", and the theory over them. There is no code here: specs/ has the definitions, proofs/ the laws and theorems, and
 // this file the kinds of answer that the calls give.
+#![tactic(auto)]
 
 // What `find_primer` answers: the places written, or a refusal.
 #[derive(Drop)]

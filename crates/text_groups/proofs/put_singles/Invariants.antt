@@ -1,0 +1,19 @@
+-- `text_groups::put_singles` meets its contract: after i turns those alone among the first i positions are put. Assumes nothing.
+use Prim.Native.Nat.{◌+◌, ◌≤◌, ◌-◌}
+use mathlib.Core.Path.{◌≡◌, refl}
+use native.Mathlib.Omega.{arith}
+use lib.ListN.{length}
+use borrow.Author.Rules.{rules}
+use Rattle.words.specs.Range.{gather}
+use Rattle.text_puts.specs.Puts.{Puts}
+use Rattle.text_puts.proofs.Putting.{puts_none}
+use Rattle.text_groups.specs.Groups.{single_text, singles_text}
+use Rattle.text_puts.proofs.Pieces.{turn-room, turn_puts}
+use Rattle.text_groups.proofs.Cells.{single_is}
+use Rattle.text_groups.proofs.put_singles.Given as goal
+
+abbrev pub invariant-loop-i : goal.invariant-loop-i
+invariant-loop-i l = (l.i ≤ length l.table) × (length l.buf ≡ length l.initial.buf) × Puts l.initial.buf l.at (gather (single_text l.table) l.i 1) l.buf l.next
+
+abbrev pub decreases-loop-i : goal.decreases-loop-i
+decreases-loop-i l = length l.table - l.i
