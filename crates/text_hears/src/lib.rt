@@ -14,7 +14,8 @@ pub fn hear(line: &[u8], len: usize, list: &mut [u16]) -> Listed
     requires { 1001 ≤ length line.now }
     ensures { Hears line.now len list.old (listed_says result) list.new }
 {
-    if MOST < len {
+    let over = MOST < len;
+    if over {
         return Listed::TooLong(len);
     }
     call_lists::list(&line[..len], 0, list)

@@ -1,8 +1,7 @@
 -- `print_lines::answer` meets its contract: the text is written to the rest of the buffer, from its place on.
 use Rattle.std.proofs.Common.{arith}
-use borrow.Author.Rules.{rules}
 use Rattle.print_lines.proofs.Hearing.{heard}
-use Rattle.print_lines.proofs.Collecting.{place_inside, printable, text_inside, collected}
+use Rattle.print_lines.proofs.Collecting.{place_inside, printable, collected}
 use Rattle.print_lines.proofs.answer.Goals as goal
 
 pub slice_bounds-write_answer-count : goal.slice_bounds-write_answer-count
@@ -20,4 +19,4 @@ write_answer-n-requires c =
 pub returns : goal.returns
 returns c =
     collected (heard (omega (arith, c.requires.0)) (omega arith) c.hear-found.ensures) c.requires.1 c.hear-found.auto.list c.room-o.ensures
-        c.write_answer-n.ensures c.write_answer-n.auto.buf _
+    c.write_answer-n.ensures c.write_answer-n.auto.buf _

@@ -4,9 +4,9 @@ use Rattle.words.specs.Answers.{listed_says}
 use Rattle.text_hears.proofs.Hearing.{hears_long, hears_list}
 use Rattle.text_hears.proofs.hear.Goals as goal
 
-pub returns-then-len-gt-MOST : goal.returns-then-len-gt-MOST
+pub returns-then-over : goal.returns-then-over
 unfolding listed_says
-returns-then-len-gt-MOST c = hears_long _ _ _ c.if-len-gt-MOST.true
+returns-then-over c = hears_long _ _ _ c.if-over.true
 
 pub returns : goal.returns
 returns c = hears_list _ _ _ (omega arith) (omega arith) (omega arith) c.list.ensures.0 c.list.ensures.1
