@@ -1,6 +1,8 @@
 // Runs every call but the reader's `new` on the reads with known results that document 01 has run, at the edges of each refusal and on refusals
 // in combination, and prints each answer in the documents' numbers with the slices before and after. `next` is run by `call_reader::call_once`. What a
 // request of document 02 adds is run by a library of its own.
+#![tactic(auto)]
+
 use run_claims::claim_on;
 use run_prints::{answer, count_up, number, word};
 use run_sevens::{list_in, log_in, replay_in, table_in};

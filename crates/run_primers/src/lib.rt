@@ -1,5 +1,7 @@
 // Runs `find_primer` and `reverse_complement` (document 02, item 6): each letter against each, bytes outside the code in a read, every refusal at its edge and in its place in the
 // order, with the slices before and after, and the limits of a read and of a primer. What they give for the stored reads stands in their results.
+#![tactic(auto)]
+
 ghost use Rattle.std.specs.Prelude.{◌≤◌};
 
 use run_prints::{answer, count_up, slice, slice_bytes, word};

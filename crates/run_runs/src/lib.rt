@@ -1,5 +1,7 @@
 // Runs `runs` (document 02, item 3) at the edge of its room, with the slices before and after, and at the limit of a read. What it gives for the stored reads
 // stands in their results.
+#![tactic(auto)]
+
 ghost use Rattle.std.specs.Prelude.{◌≤◌};
 
 use run_prints::{answer, slice, word};

@@ -1,5 +1,7 @@
 // The text of the moves of one width, a line for each name that they moved under. Each function promises its text byte by byte, the place after it, and that the
 // rest of the buffer is as it was.
+#![tactic(auto)]
+
 ghost use Rattle.std.specs.Prelude.{◌≡◌, ◌<◌};
 ghost use Rattle.words.specs.Rows.{rows};
 ghost use Rattle.words.specs.Moves.{move_size};

@@ -1,5 +1,7 @@
 // The text of the bench view: of one width, from its table of groups, its moves, and the list's lines and the runs of that period; the first line of a read and the
 // last two. Each function promises its text byte by byte, the place after it, and that the rest of the buffer is as it was.
+#![tactic(auto)]
+
 ghost use Rattle.std.specs.Prelude.{◌≤◌, ◌<◌};
 ghost use Rattle.words.specs.Rows.{rows};
 ghost use Rattle.text_puts.specs.Puts.{Room, Puts};

@@ -1,5 +1,4 @@
 -- `base_sets::letter_for` meets its contract: the table is the definition's. Assumes nothing.
-use borrow.Author.Rules.{rules}
 use Rattle.base_sets.proofs.Tables.{letter_at}
 use Rattle.base_sets.proofs.letter_for.Goals as goal
 

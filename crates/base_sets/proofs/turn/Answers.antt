@@ -1,6 +1,5 @@
 -- `base_sets::turn` meets its contract: that of its three parts. Assumes nothing.
 use mathlib.Core.Path.{ap, ◌∙◌}
-use borrow.Author.Rules.{rules}
 use Rattle.words_primers.specs.Bases.{letter_for, complement_of}
 use Rattle.words_primers.specs.Primers.{turned}
 use Rattle.base_sets.proofs.turn.Goals as goal

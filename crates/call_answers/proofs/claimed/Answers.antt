@@ -1,6 +1,5 @@
 -- `call_answers::claimed` meets its contract, case by case. Assumes nothing.
 use Rattle.words_claims.specs.Calls.{claimed_says}
-use borrow.Author.Rules.{rules}
 use Rattle.call_answers.proofs.claimed.Goals as goal
 
 pub returns-in-Yes : goal.returns-in-Yes

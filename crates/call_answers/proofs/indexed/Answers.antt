@@ -1,6 +1,5 @@
 -- `call_answers::indexed` meets its contract, case by case. Assumes nothing.
 use Rattle.words_index.specs.Calls.{indexed_says}
-use borrow.Author.Rules.{rules}
 use Rattle.call_answers.proofs.indexed.Goals as goal
 
 pub returns-in-Entries : goal.returns-in-Entries

@@ -1,6 +1,5 @@
 -- `call_answers::list_indexed` meets its contract, case by case. Assumes nothing.
 use Rattle.words_index.specs.Calls.{list_indexed_says}
-use borrow.Author.Rules.{rules}
 use Rattle.call_answers.proofs.list_indexed.Goals as goal
 
 pub returns-in-Lines : goal.returns-in-Lines

@@ -1,6 +1,5 @@
 -- `call_answers::listed` meets its contract, case by case. Assumes nothing.
 use Rattle.words.specs.Answers.{listed_says}
-use borrow.Author.Rules.{rules}
 use Rattle.call_answers.proofs.listed.Goals as goal
 
 pub returns-in-Lines : goal.returns-in-Lines

@@ -1,6 +1,5 @@
 -- `call_answers::logged` meets its contract, case by case. Assumes nothing.
 use Rattle.words.specs.Answers.{logged_says}
-use borrow.Author.Rules.{rules}
 use Rattle.call_answers.proofs.logged.Goals as goal
 
 pub returns-in-Moves : goal.returns-in-Moves

@@ -1,7 +1,6 @@
 -- `call_answers::looked` meets its contract, case by case. Assumes nothing.
 use Rattle.words_index.specs.Calls.{looked_says}
 use Rattle.call_answers.specs.Plain.{entry_found, plain_looked}
-use borrow.Author.Rules.{rules}
 use Rattle.call_answers.proofs.looked.Goals as goal
 
 pub returns-in-Entry : goal.returns-in-Entry

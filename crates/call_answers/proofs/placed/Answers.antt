@@ -1,6 +1,5 @@
 -- `call_answers::placed` meets its contract, case by case. Assumes nothing.
 use Rattle.words_primers.specs.Calls.{placed_says}
-use borrow.Author.Rules.{rules}
 use Rattle.call_answers.proofs.placed.Goals as goal
 
 pub returns-in-Places : goal.returns-in-Places

@@ -1,6 +1,5 @@
 -- `call_answers::replayed` meets its contract, case by case. Assumes nothing.
 use Rattle.words.specs.Answers.{replayed_says}
-use borrow.Author.Rules.{rules}
 use Rattle.call_answers.proofs.replayed.Goals as goal
 
 pub returns-in-Names : goal.returns-in-Names

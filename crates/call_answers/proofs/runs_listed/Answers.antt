@@ -1,6 +1,5 @@
 -- `call_answers::runs_listed` meets its contract, case by case. Assumes nothing.
 use Rattle.words_runs.specs.Calls.{runs_listed_says}
-use borrow.Author.Rules.{rules}
 use Rattle.call_answers.proofs.runs_listed.Goals as goal
 
 pub returns-in-Runs : goal.returns-in-Runs

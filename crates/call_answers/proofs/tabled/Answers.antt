@@ -1,6 +1,5 @@
 -- `call_answers::tabled` meets its contract, case by case. Assumes nothing.
 use Rattle.words.specs.Answers.{tabled_says}
-use borrow.Author.Rules.{rules}
 use Rattle.call_answers.proofs.tabled.Goals as goal
 
 pub returns-in-Names : goal.returns-in-Names

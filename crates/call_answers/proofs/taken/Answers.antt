@@ -1,7 +1,6 @@
 -- `call_answers::taken` meets its contract, case by case. Assumes nothing.
 use Rattle.words.specs.Answers.{entry_says}
 use Rattle.call_answers.specs.Plain.{entry_move, plain_move}
-use borrow.Author.Rules.{rules}
 use Rattle.call_answers.proofs.taken.Goals as goal
 
 pub returns-in-Move : goal.returns-in-Move

@@ -1,6 +1,5 @@
 -- `call_answers::turned` meets its contract, case by case. Assumes nothing.
 use Rattle.words_primers.specs.Calls.{turned_says}
-use borrow.Author.Rules.{rules}
 use Rattle.call_answers.proofs.turned.Goals as goal
 
 pub returns-in-Letters : goal.returns-in-Letters

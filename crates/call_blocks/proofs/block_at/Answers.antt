@@ -1,12 +1,9 @@
 -- `call_blocks::block_at` meets its contract. The loop's invariant: the lines from k to below j have one period; the measure is how many lines are left.
 -- Assumes nothing.
-use Prim.Native.Nat.{◌-◌}
-use mathlib.Core.Path.{◌≡◌, sym, ◌∙◌}
+use mathlib.Core.Path.{sym, ◌∙◌}
 use native.Mathlib.Omega.{arith}
-use borrow.Author.Rules.{rules}
-use Rattle.words.specs.Rows.{rows}
-use Rattle.words.specs.Lists.{line_size, period_of}
-use Rattle.call_blocks.proofs.Growing.{Grows, grows_one, grows_more, grows_ended}
+use Rattle.words.specs.Lists.{period_of}
+use Rattle.call_blocks.proofs.Growing.{grows_one, grows_more}
 use Rattle.call_blocks.proofs.block_at.Goals as goal
 
 pub loop-j-init : goal.loop-j-init

@@ -1,12 +1,10 @@
 -- `call_blocks::block_at` meets its contract. The loop's invariant: the lines from k to below j have one period; the measure is how many lines are left.
 -- Assumes nothing.
 use Prim.Native.Nat.{◌-◌}
-use mathlib.Core.Path.{◌≡◌, sym, ◌∙◌}
-use native.Mathlib.Omega.{arith}
-use borrow.Author.Rules.{rules}
+use mathlib.Core.Path.{◌≡◌}
 use Rattle.words.specs.Rows.{rows}
 use Rattle.words.specs.Lists.{line_size, period_of}
-use Rattle.call_blocks.proofs.Growing.{Grows, grows_one, grows_more, grows_ended}
+use Rattle.call_blocks.proofs.Growing.{Grows}
 use Rattle.call_blocks.proofs.block_at.Given as goal
 
 abbrev pub invariant-loop-j : goal.invariant-loop-j

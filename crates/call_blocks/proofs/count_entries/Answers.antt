@@ -1,6 +1,5 @@
 -- `call_blocks::count_entries` meets its contract: the entries are counted, and none is written. Assumes nothing.
 use mathlib.Core.Path.{sym}
-use borrow.Author.Rules.{rules}
 use Rattle.call_blocks.proofs.Indexing.{indexing_counted}
 use Rattle.call_blocks.proofs.count_entries.Goals as goal
 

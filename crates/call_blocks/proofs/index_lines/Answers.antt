@@ -1,16 +1,9 @@
 -- `call_blocks::index_lines` meets its contract. The loop's invariant: a block begins at k, and the entries of the periods below it are written; the measure is
 -- how many lines are left. Assumes nothing.
-use Prim.Native.Nat.{◌-◌, ◌≤◌}
-use mathlib.Core.Path.{◌≡◌}
 use native.Mathlib.Omega.{arith}
-use borrow.Author.Rules.{rules}
-use Rattle.words.specs.Rows.{rows}
-use Rattle.words.specs.Lists.{line_size}
-use Rattle.row_cells.specs.Listing.{Listing}
-use Rattle.words_index.specs.Index.{entry_size}
-use Rattle.words_index.proofs.Ordered.{Ordered, in_order_ordered}
-use Rattle.words_index.proofs.Blocks.{Opens, opens_first}
-use Rattle.call_blocks.proofs.Indexing.{below, below_few, indexing_none, opens_on, indexing_more, indexing_whole}
+use Rattle.words_index.proofs.Ordered.{in_order_ordered}
+use Rattle.words_index.proofs.Blocks.{opens_first}
+use Rattle.call_blocks.proofs.Indexing.{below_few, indexing_none, opens_on, indexing_more, indexing_whole}
 use Rattle.call_blocks.proofs.index_lines.Goals as goal
 
 pub loop-k-init : goal.loop-k-init

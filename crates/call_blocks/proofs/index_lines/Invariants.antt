@@ -2,15 +2,13 @@
 -- how many lines are left. Assumes nothing.
 use Prim.Native.Nat.{◌-◌, ◌≤◌}
 use mathlib.Core.Path.{◌≡◌}
-use native.Mathlib.Omega.{arith}
-use borrow.Author.Rules.{rules}
 use Rattle.words.specs.Rows.{rows}
 use Rattle.words.specs.Lists.{line_size}
 use Rattle.row_cells.specs.Listing.{Listing}
 use Rattle.words_index.specs.Index.{entry_size}
-use Rattle.words_index.proofs.Ordered.{Ordered, in_order_ordered}
-use Rattle.words_index.proofs.Blocks.{Opens, opens_first}
-use Rattle.call_blocks.proofs.Indexing.{below, below_few, indexing_none, opens_on, indexing_more, indexing_whole}
+use Rattle.words_index.proofs.Ordered.{Ordered}
+use Rattle.words_index.proofs.Blocks.{Opens}
+use Rattle.call_blocks.proofs.Indexing.{below}
 use Rattle.call_blocks.proofs.index_lines.Given as goal
 
 abbrev pub invariant-loop-k : goal.invariant-loop-k

@@ -1,9 +1,6 @@
 -- `call_claims::claim` meets its contract: each return is the verdict there, test by test in the definition's order. Assumes nothing.
 use mathlib.Core.Path.{sym, ap, ◌∙◌}
-use mathlib.Core.Logic.{⊎_elim}
 use native.Mathlib.Omega.{arith}
-use borrow.Author.Rules.{rules}
-use borrow.Author.Tests.{eqb-true, eqb-false}
 use Rattle.words_claims.specs.declared.Claimed.{Claimed}
 use Rattle.words_claims.proofs.Said.{verdict_said}
 use Rattle.words_claims.proofs.Verdicts.{outside_is, inside_is, tells_long, tells_outside, tells_shorter, tells_yes, tells_copies}

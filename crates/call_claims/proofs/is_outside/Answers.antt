@@ -1,11 +1,9 @@
 -- `call_claims::is_outside` meets its contract: a 0 is outside, and where there is none the last byte decides, whose place fits. Assumes nothing.
 use Prim.Native.Nat.{◌≤◌}
 use mathlib.Core.Path.{sym}
-use mathlib.Core.Logic.{inl, inr, ⊎_elim}
+use mathlib.Core.Logic.{inl, inr}
 use native.Mathlib.Omega.{arith}
-use native.Mathlib.Nat.{mul-le-mul_left}
-use borrow.Author.Rules.{rules}
-use borrow.Author.Tests.{eqb-true, eqb-false}
+use borrow.Author.Tests.{eqb-false}
 use Rattle.words_claims.proofs.Verdicts.{is_outside, outside_last}
 use Rattle.call_claims.proofs.is_outside.Goals.{Else-copies-eq0, then-start-eq0-via-then-start-eq0, then-start-eq0-via-else-start-eq0+then-period-eq0, then-start-eq0-via-else-start-eq0+else-period-eq0+then-copies-eq0}
 use Rattle.call_claims.proofs.is_outside.Goals as goal

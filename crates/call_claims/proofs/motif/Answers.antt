@@ -3,7 +3,6 @@ use Prim.Native.Nat.{ℕ, ◌+◌, ◌-◌, ◌≤◌}
 use mathlib.Core.Path.{◌≡◌, refl, sym, ◌∙◌}
 use mathlib.Core.List.{List}
 use native.Mathlib.Omega.{arith}
-use borrow.Author.Rules.{rules}
 use lib.ListN.{take, drop}
 use Rattle.words_claims.specs.Calls.{motif_length, motif}
 use Rattle.words_claims.proofs.Motifs.{shown-fits, shown_from, shown_bytes, hidden_from, hidden_bytes}

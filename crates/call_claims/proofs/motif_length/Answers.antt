@@ -1,6 +1,5 @@
 -- `call_claims::motif_length` meets its contract, verdict by verdict. Assumes nothing.
 use mathlib.Core.Path.{◌≡◌, sym, ◌∙◌}
-use borrow.Author.Rules.{rules}
 use Rattle.words_claims.specs.Calls.{verdict, shown_of}
 use Rattle.words_claims.proofs.Said.{said_verdict}
 use Rattle.words_claims.proofs.Motifs.{length_of}

@@ -2,7 +2,6 @@
 use Prim.Native.Nat.{◌≤◌}
 use mathlib.Core.Path.{sym, ◌∙◌}
 use native.Mathlib.Omega.{arith}
-use borrow.Author.Rules.{rules}
 use Rattle.words_claims.specs.Calls.{motif_length}
 use Rattle.words_claims.proofs.Motifs.{shown-fits}
 use Rattle.call_claims.proofs.Parts.{part-shown, part_hidden}

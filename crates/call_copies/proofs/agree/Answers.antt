@@ -1,12 +1,9 @@
 -- `call_copies::agree` meets its contract. The loop's invariant: the first k letters agree; the measure is how many are left.
 -- Assumes nothing.
-use Prim.Native.Nat.{◌+◌, ◌-◌, ◌≤◌}
 use mathlib.Core.Path.{sym}
 use native.Mathlib.Omega.{arith}
 use borrow.Author.Rules.{rules}
 use borrow.Author.Count.{below_more}
-use borrow.Author.Tests.{not-true, not-false}
-use Rattle.words.proofs.Stretches.{Alike}
 use Rattle.read_letters.proofs.Bases.{bases_same, bases_differ}
 use Rattle.call_copies.proofs.Letters.{byte_at}
 use Rattle.call_copies.proofs.Agreed.{agreed_is, agreed-none, agreed-first}

@@ -1,5 +1,4 @@
 -- `call_copies::agree_inside` meets its contract: the test that the code makes is the definition's. Assumes nothing.
-use borrow.Author.Rules.{rules}
 use borrow.Author.Tests.{eq-eqb, ne_eqb}
 use Rattle.call_copies.specs.Copies.{agreed_inside}
 use Rattle.call_copies.proofs.agree_inside.Goals as goal

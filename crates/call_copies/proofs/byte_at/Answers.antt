@@ -2,9 +2,7 @@
 -- Assumes nothing.
 use Prim.Native.Nat.{◌-◌}
 use mathlib.Core.Path.{◌≡◌, sym}
-use mathlib.Core.Logic.{⊎_elim}
 use native.Mathlib.Omega.{arith}
-use borrow.Author.Rules.{rules}
 use Rattle.call_copies.proofs.Letters.{byte_at, byte_past}
 use Rattle.call_copies.proofs.byte_at.Goals.{else-i-gt0, then-i-gt0}
 use Rattle.call_copies.proofs.byte_at.Goals as goal

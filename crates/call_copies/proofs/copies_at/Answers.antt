@@ -1,6 +1,5 @@
 -- `call_copies::copies_at` meets its contract: each return is the count there, which is at most n. Assumes nothing.
 use native.Mathlib.Omega.{arith}
-use borrow.Author.Rules.{rules}
 use Rattle.call_copies.proofs.Counted.{counted_past, counted_empty}
 use Rattle.call_copies.proofs.Agreed.{agreed_few, agreed-copies, agreed-most}
 use Rattle.call_copies.proofs.copies_at.Goals as goal

@@ -1,13 +1,10 @@
 -- `call_copies::root_at` meets its contract. The loop's invariant: no length below d writes the motif; the measure is how many lengths are left up to the half.
 -- Assumes nothing.
-use Prim.Native.Nat.{◌+◌, ◌-◌, ◌≤◌}
 use mathlib.Core.Path.{sym, ◌∙◌}
-use mathlib.Core.Logic.{inl, inr, ⊎_elim}
+use mathlib.Core.Logic.{inl, inr}
 use native.Mathlib.Omega.{arith}
-use borrow.Author.Rules.{rules}
 use borrow.Author.Tests.{eq-eqb}
-use Rattle.words.proofs.Searches.{missed_none}
-use Rattle.call_copies.proofs.Roots.{Unwritten, root_short, root_found, root_past, root_half, inside_high, inside-writes, unwritten_on}
+use Rattle.call_copies.proofs.Roots.{root_short, root_found, root_past, root_half, inside_high, inside-writes, unwritten_on}
 use Rattle.call_copies.proofs.root_at.Goals.{else-d-m, then-d-m}
 use Rattle.call_copies.proofs.root_at.Goals as goal
 

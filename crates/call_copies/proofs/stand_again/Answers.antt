@@ -1,14 +1,11 @@
 -- `call_copies::stand_again` meets its contract. The loop's invariant: the first k letters agree; the measure is how many are left.
 -- Assumes nothing.
-use Prim.Native.Nat.{◌+◌, ◌-◌, ◌≤◌}
 use mathlib.Core.Path.{sym}
 use native.Mathlib.Omega.{arith}
 use borrow.Author.Rules.{rules}
 use borrow.Author.Count.{below_more}
-use borrow.Author.Tests.{not-true, not-false}
-use Rattle.words.proofs.Stretches.{Alike, is_alike}
+use Rattle.words.proofs.Stretches.{is_alike}
 use Rattle.read_letters.proofs.Bases.{bases_same, bases_differ}
-use Rattle.call_copies.specs.Copies.{farthest}
 use Rattle.call_copies.proofs.Compared.{alike-differs, alike_past}
 use Rattle.call_copies.proofs.stand_again.Goals as goal
 

@@ -1,5 +1,4 @@
 -- `call_judges::comes_after` meets its contract: the test that the code makes is the definition's. Assumes nothing.
-use borrow.Author.Rules.{rules}
 use borrow.Author.Tests.{eq-eqb, ne_eqb}
 use Rattle.call_judges.specs.Judge.{follows}
 use Rattle.call_judges.proofs.comes_after.Goals as goal

@@ -1,13 +1,7 @@
 -- `call_judges::first_bad` meets its contract. The loop's invariant: the first k entries are good, and their positions are seen. The measure is how many
 -- entries are left. Assumes nothing.
-use Prim.Native.Nat.{◌-◌, ◌≤◌}
-use mathlib.Core.Path.{◌≡◌, sym, ◌∙◌}
+use mathlib.Core.Path.{sym, ◌∙◌}
 use native.Mathlib.Omega.{arith}
-use borrow.Author.Rules.{rules}
-use borrow.Author.Tests.{not-true, not-false}
-use Rattle.words.specs.Rows.{rows}
-use Rattle.words.specs.Moves.{move_size}
-use Rattle.call_judges.specs.Judge.{Seen}
 use Rattle.call_judges.proofs.Judging.{seen_start, bad_here, bad_none}
 use Rattle.call_judges.proofs.first_bad.Goals as goal
 

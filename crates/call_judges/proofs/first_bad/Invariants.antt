@@ -1,14 +1,10 @@
 -- `call_judges::first_bad` meets its contract. The loop's invariant: the first k entries are good, and their positions are seen. The measure is how many
 -- entries are left. Assumes nothing.
 use Prim.Native.Nat.{◌-◌, ◌≤◌}
-use mathlib.Core.Path.{◌≡◌, sym, ◌∙◌}
-use native.Mathlib.Omega.{arith}
-use borrow.Author.Rules.{rules}
-use borrow.Author.Tests.{not-true, not-false}
+use mathlib.Core.Path.{◌≡◌}
 use Rattle.words.specs.Rows.{rows}
 use Rattle.words.specs.Moves.{move_size}
 use Rattle.call_judges.specs.Judge.{Seen}
-use Rattle.call_judges.proofs.Judging.{seen_start, bad_here, bad_none}
 use Rattle.call_judges.proofs.first_bad.Given as goal
 
 abbrev pub invariant-loop-k : goal.invariant-loop-k

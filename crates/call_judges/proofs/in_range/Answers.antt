@@ -1,8 +1,6 @@
 -- `call_judges::in_range` meets its contract: each part is the range of its number. Assumes nothing.
 use mathlib.Core.Path.{sym, ◌∙◌}
 use native.Mathlib.Omega.{arith}
-use borrow.Author.Rules.{rules}
-use borrow.Author.Tests.{not-true, not-false}
 use Rattle.words.proofs.Sizes.{top-some}
 use Rattle.call_judges.specs.Judge.{in_range}
 use Rattle.words.proofs.Within.{within_is}

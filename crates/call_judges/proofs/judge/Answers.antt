@@ -5,8 +5,6 @@ use mathlib.Core.Bool.{true}
 use Rattle.words.specs.Reads.{at}
 use Rattle.words.specs.Moves.{place_of}
 use Rattle.call_judges.specs.Judge.{in_range, follows}
-use borrow.Author.Rules.{rules}
-use borrow.Author.Tests.{not-true, not-false}
 use Rattle.words.proofs.Tests.{clash}
 use Rattle.call_judges.proofs.Judging.{range_fails, order_fails, place_inside, seen_bad, seen_good, seen_step}
 use Rattle.call_judges.proofs.judge.Goals.{After-load, Else-not-comes_after}

@@ -1,6 +1,5 @@
 -- `call_judges::ordered` meets its contract: the first key that differs decides. Assumes nothing.
 use mathlib.Core.Path.{sym, ◌∙◌}
-use borrow.Author.Rules.{rules}
 use Rattle.words.specs.Logs.{before}
 use Rattle.words.proofs.Tests.{keys_differ, keys_same}
 use Rattle.call_judges.proofs.ordered.Goals as goal

@@ -2,7 +2,6 @@
 use Prim.Native.Nat.{◌*◌}
 use mathlib.Core.Path.{◌≡◌, refl}
 use native.Mathlib.Omega.{arith}
-use borrow.Author.Rules.{rules}
 use Rattle.words.specs.Moves.{move_size}
 use Rattle.words.specs.Logs.{first_bad}
 use Rattle.call_judges.proofs.Formed.{bad_fits, formed_test}

@@ -1,7 +1,6 @@
 -- `call_list_indexes::count_both` meets its contract: each refusal where its count says so, and else both are written. Assumes nothing.
 use mathlib.Core.Path.{refl}
 use native.Mathlib.Omega.{arith}
-use borrow.Author.Rules.{rules}
 use Rattle.call_list_indexes.proofs.Said.{full_said, index_full_said}
 use Rattle.call_list_indexes.proofs.count_both.Goals as goal
 

@@ -4,7 +4,6 @@ use mathlib.Core.Path.{sym}
 use native.Mathlib.Omega.{arith}
 use lib.ListN.{length}
 use lib.Seq.{length-take-le}
-use borrow.Author.Rules.{rules}
 use Rattle.words.specs.Rows.{rows}
 use Rattle.words.specs.Lists.{line_size}
 use Rattle.call_list_indexes.proofs.Said.{full_said, lines-counted, same-room, size_fits, front_in_order, both_said}

@@ -1,16 +1,12 @@
 -- `call_orders::first_loose` meets its contract. The loop's invariant: the first k lines are in their places; the measure is how many lines are left.
 -- Assumes nothing.
 use Prim.Native.Nat.{◌-◌, ◌≤◌}
-use mathlib.Core.Path.{◌≡◌, refl, sym, ap, ◌∙◌}
+use mathlib.Core.Path.{◌≡◌}
 use mathlib.Core.Bool.{not}
-use native.Mathlib.Omega.{arith}
-use borrow.Author.Rules.{rules}
-use borrow.Author.Tests.{not-true, not-false}
 use Rattle.words.specs.Rows.{rows}
 use Rattle.words.specs.Lists.{line_size}
-use Rattle.words.proofs.Searches.{Missed, missed_none, missed_more}
+use Rattle.words.proofs.Searches.{Missed}
 use Rattle.words_index.specs.Index.{placed}
-use Rattle.call_orders.proofs.Judging.{loose_here, loose_none}
 use Rattle.call_orders.proofs.first_loose.Given as goal
 
 abbrev pub invariant-loop-k : goal.invariant-loop-k

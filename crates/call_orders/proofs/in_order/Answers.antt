@@ -2,7 +2,6 @@
 use Prim.Native.Nat.{◌*◌}
 use mathlib.Core.Path.{◌≡◌, refl}
 use native.Mathlib.Omega.{arith}
-use borrow.Author.Rules.{rules}
 use Rattle.words.specs.Lists.{line_size}
 use Rattle.words_index.specs.Index.{first_loose}
 use Rattle.words_index.proofs.Ordered.{order_test}

@@ -1,5 +1,4 @@
 -- `call_orders::in_place` meets its contract: the test that the code makes is the definition's. Assumes nothing.
-use borrow.Author.Rules.{rules}
 use borrow.Author.Tests.{eq-eqb, ne_eqb}
 use Rattle.words_index.specs.Index.{placed}
 use Rattle.call_orders.proofs.in_place.Goals as goal

@@ -1,6 +1,5 @@
 -- `call_orders::ordered` meets its contract: the first key that differs decides. Assumes nothing.
 use mathlib.Core.Path.{sym}
-use borrow.Author.Rules.{rules}
 use Rattle.words.proofs.Tests.{keys_differ, keys_same}
 use Rattle.words_index.specs.Index.{ahead}
 use Rattle.call_orders.proofs.ordered.Goals as goal

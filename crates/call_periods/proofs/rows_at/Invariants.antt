@@ -1,12 +1,9 @@
 -- `call_periods::rows_at` meets its contract. The loop's invariant: the rows of the places before the next start are written, and what the lines
 -- ask for is kept; the measure is how many places are left. Assumes nothing.
-use Prim.Native.Nat.{◌-◌, ◌≤◌}
-use mathlib.Core.Path.{◌≡◌}
-use native.Mathlib.Omega.{arith}
+use Prim.Native.Nat.{◌-◌}
 use Rattle.step2_bits.specs.Sets.{flags, Sound}
-use Rattle.step2_bits.proofs.Flags.{flags-length}
-use Rattle.step2_bits.proofs.Emptying.{done, taken_empty, taken_less}
-use Rattle.call_periods.proofs.Turns.{Turn, turn-first, turn_few, turn_start, turn-kept, turn-next, turn_last}
+use Rattle.step2_bits.proofs.Emptying.{done}
+use Rattle.call_periods.proofs.Turns.{Turn}
 use Rattle.call_periods.proofs.rows_at.Given as goal
 
 abbrev pub invariant-loop-i : goal.invariant-loop-i

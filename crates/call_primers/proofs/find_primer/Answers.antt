@@ -1,7 +1,5 @@
 -- `call_primers::find_primer` meets its contract: each return says what document 02 says there. Assumes nothing.
 use mathlib.Core.Path.{sym, ◌∙◌}
-use borrow.Author.Rules.{rules}
-use borrow.Author.Tests.{not-true, not-false}
 use Rattle.words.proofs.Within.{within_is, within-not}
 use Rattle.words_primers.proofs.Turning.{GoodLength}
 use Rattle.call_primers.proofs.Said.{long_said, length_said, foreign_said, full_said, places_said}

@@ -1,14 +1,9 @@
 -- `call_primers::reverse` meets its contract. The loop's invariant: the first k letters of the reverse complement are stored; the measure is how many are left. Assumes nothing.
-use Prim.Native.Nat.{ℕ, ◌+◌, ◌-◌, ◌≤◌, ◌<◌}
-use mathlib.Core.Path.{◌≡◌, refl, sym, ap, ◌∙◌}
-use mathlib.Core.List.{◌++◌}
-use native.Mathlib.Omega.{arith}
-use lib.ListN.{length, get_or, set, take, drop, length-set}
-use borrow.Author.Rules.{rules}
+use Prim.Native.Nat.{◌-◌, ◌≤◌}
+use mathlib.Core.Path.{◌≡◌}
+use lib.ListN.{length, take}
 use Rattle.words_primers.specs.Primers.{reverse_complement}
-use Rattle.words_primers.proofs.Turning.{reverse-length, reverse-at}
 use Rattle.row_cells.specs.Stored.{stored}
-use Rattle.row_cells.proofs.Stored.{stored-none, stored-front, row_more, row_whole}
 use Rattle.call_primers.proofs.reverse.Given as goal
 
 abbrev pub invariant-loop-k : goal.invariant-loop-k

@@ -3,8 +3,6 @@ use Prim.Native.Nat.{◌≤◌}
 use mathlib.Core.Path.{refl, sym, ◌∙◌}
 use native.Mathlib.Omega.{arith}
 use lib.ListN.{length}
-use borrow.Author.Rules.{rules}
-use borrow.Author.Tests.{not-true, not-false}
 use Rattle.words.specs.Answers.{replayed_says}
 use Rattle.words.specs.Moves.{top_of}
 use Rattle.call_judges.proofs.Formed.{formed_good}

@@ -12,7 +12,7 @@ use Rattle.marker_answers.proofs.scored.Goals as goal
 
 pub returns-in-Copies : goal.returns-in-Copies
 unfolding plain_score scored_says success
-returns-in-Copies c = 
+returns-in-Copies c =
     let back : to_z w32 (of_z w32 c.in-Copies.difference) ≡ c.in-Copies.difference = to_z-of_z w32 _ (record { sfits = search rules }) in
     rw (c.in_twos.ensures, c.in-Copies.is, back) refl
 

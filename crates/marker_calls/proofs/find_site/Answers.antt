@@ -1,6 +1,5 @@
 -- `marker_calls::find_site` meets its contract: what lies between the primers is searched, and what is refused stays refused. Assumes nothing.
 use mathlib.Core.Path.{sym, ◌∙◌}
-use borrow.Author.Rules.{rules}
 use Rattle.words_markers.specs.declared.Seats.{Seats}
 use Rattle.words_markers.proofs.Seated.{between-inside, seats_exactly}
 use Rattle.words_markers.proofs.Truth.{site-between, site-not}

@@ -1,6 +1,5 @@
 -- `marker_calls::place_shown` meets its contract: the read is scored or not, and the house list has the marker or not. Assumes nothing.
 use mathlib.Core.Path.{◌≡◌, sym, ◌∙◌}
-use borrow.Author.Rules.{rules}
 use Rattle.words_markers.specs.Sites.{site}
 use Rattle.words_markers.specs.declared.Site.{Site}
 use Rattle.words_markers.specs.declared.Shown.{Shown}

@@ -1,7 +1,6 @@
 -- `marker_calls::score` meets its contract: the copies of the repeat that is scored are counted, and a refusal stays one. Assumes nothing.
 use mathlib.Core.Path.{◌≡◌, sym, ◌∙◌}
 use native.Mathlib.Omega.{arith}
-use borrow.Author.Rules.{rules}
 use Rattle.words_markers.specs.Sites.{site}
 use Rattle.words_markers.specs.declared.Site.{Site}
 use Rattle.words_markers.proofs.Truth.{site-inside}

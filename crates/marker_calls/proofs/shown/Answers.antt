@@ -1,7 +1,6 @@
 -- `marker_calls::shown` meets its contract, slice by slice: the part lies in the slice that the rule says, and is the one that is shown. Assumes nothing.
 use mathlib.Core.Path.{◌≡◌, sym, ◌∙◌}
 use native.Mathlib.Omega.{arith}
-use borrow.Author.Rules.{rules}
 use Rattle.words_markers.specs.Calls.{shown}
 use Rattle.words_markers.specs.declared.Shown.{Shown}
 use Rattle.words_markers.proofs.Showing.{house_part, read_part}

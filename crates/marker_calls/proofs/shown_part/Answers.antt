@@ -1,6 +1,5 @@
 -- `marker_calls::shown_part` meets its contract, slice by slice. Assumes nothing.
 use mathlib.Core.Path.{sym, ◌∙◌}
-use borrow.Author.Rules.{rules}
 use Rattle.marker_calls.proofs.Parts.{house_numbers, read_numbers, no_numbers}
 use Rattle.marker_calls.proofs.shown_part.Goals as goal
 

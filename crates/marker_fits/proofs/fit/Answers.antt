@@ -1,12 +1,9 @@
 -- `marker_fits::fit` meets its contract: each return is the definition's, way by way. Assumes nothing.
 use Prim.Native.Nat.{ℕ, suc, ◌+◌, ◌-◌, ◌*◌, ◌/◌, ◌≤◌, ◌<◌}
 use mathlib.Core.Path.{◌≡◌, sym, ap, ◌∙◌}
-use mathlib.Core.Logic.{⊎_elim}
 use mathlib.Core.Bool.{true}
 use native.Mathlib.Omega.{arith}
 use lib.ListN.{length}
-use borrow.Author.Rules.{rules}
-use borrow.Author.Tests.{ltb-true, ltb-false}
 use Rattle.words.specs.Range.{first}
 use Rattle.words.specs.Repeats.{primitive}
 use Rattle.words.proofs.Ranges.{found}

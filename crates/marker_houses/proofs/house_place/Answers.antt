@@ -3,7 +3,6 @@ use mathlib.Core.Path.{sym, ◌∙◌}
 use mathlib.Core.List.{[]}
 use native.Mathlib.Omega.{arith}
 use Rattle.marker_houses.proofs.Places.{at-line, no_line, line-inside, line_is, line_is_not}
-use borrow.Author.Rules.{rules}
 use Rattle.marker_houses.proofs.house_place.Goals as goal
 
 pub returns-in_default : goal.returns-in_default

@@ -3,10 +3,9 @@ use Prim.Native.Nat.{◌≤◌}
 use mathlib.Core.Path.{◌≡◌, sym, ◌∙◌}
 use native.Mathlib.Omega.{arith}
 use lib.ListN.{length}
-use borrow.Author.Rules.{rules}
 use Rattle.words_primers.specs.Primers.{places}
 use Rattle.words_markers.specs.Sites.{seat, behind}
-use Rattle.words_markers.proofs.Seating.{behind-inside, left_missing, right_missing, left_often, right_often, out_of_order, in_order_lem}
+use Rattle.words_markers.proofs.Seating.{left_missing, right_missing, left_often, right_often, out_of_order, in_order_lem}
 use Rattle.marker_seats.proofs.Only.{counted, only_place}
 use Rattle.marker_seats.proofs.seat_both.Goals.{After-wide, After-wide-to, Else-lefts-eq0}
 use Rattle.marker_seats.proofs.seat_both.Goals as goal

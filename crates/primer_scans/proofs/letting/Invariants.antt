@@ -1,12 +1,7 @@
 -- `primer_scans::letting` meets its contract. The loop's invariant: each set has the letters, of the first k, that let it in; the measure is how many are left. Assumes nothing.
-use Prim.Native.Nat.{ℕ, ◌-◌, ◌≤◌, ◌<◌}
-use mathlib.Core.Path.{◌≡◌, subst}
-use native.Mathlib.Omega.{arith}
+use Prim.Native.Nat.{◌-◌, ◌≤◌}
 use lib.ListN.{length}
-use borrow.Author.Rules.{rules}
-use Rattle.words_primers.specs.Primers.{longest}
 use Rattle.primer_scans.specs.Fronts.{AllLet}
-use Rattle.primer_scans.proofs.Words.{all_start, all_more}
 use Rattle.primer_scans.proofs.letting.Given as goal
 
 abbrev pub invariant-loop-k : goal.invariant-loop-k

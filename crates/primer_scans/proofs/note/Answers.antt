@@ -1,12 +1,10 @@
 -- `primer_scans::note` meets its contract. The loop's invariant: the sets so far are noted; the measure is how many are left. Assumes nothing.
-use Prim.Native.Nat.{ℕ, ◌-◌, ◌+◌, ◌≤◌}
-use mathlib.Core.Path.{◌≡◌, sym, subst, ◌∙◌}
-use mathlib.Core.Logic.{⊎_elim}
+use Prim.Native.Nat.{ℕ, ◌+◌}
+use mathlib.Core.Path.{sym, subst, ◌∙◌}
 use mathlib.Core.List.{List}
-use native.Mathlib.Omega.{arith}
 use borrow.Author.Rules.{rules}
 use Rattle.primer_scans.specs.Fronts.{Noted}
-use Rattle.primer_scans.proofs.Words.{noted_start, noted_yes, noted_no}
+use Rattle.primer_scans.proofs.Words.{noted_yes, noted_no}
 use Rattle.primer_scans.proofs.note.Goals.{else-matches, then-matches}
 use Rattle.primer_scans.proofs.note.Goals as goal
 

@@ -1,10 +1,7 @@
 -- `primer_scans::scan` meets its contract. The loop's invariant: the fronts and the places up to position j; the measure is how many positions are left. Assumes nothing.
-use Prim.Native.Nat.{◌-◌}
 use native.Mathlib.Omega.{arith}
-use lib.ListN.{length}
-use borrow.Author.Rules.{rules}
 use Rattle.bits.proofs.Having.{has_one, has_not_one}
-use Rattle.primer_scans.proofs.Scanned.{Scanned, scanned_start, scanned_end, scanned_place, scanned_none, place_inside}
+use Rattle.primer_scans.proofs.Scanned.{scanned_start, scanned_end, scanned_place, scanned_none, place_inside}
 use Rattle.primer_scans.proofs.scan.Goals as goal
 
 pub loop-j-init : goal.loop-j-init

@@ -1,6 +1,5 @@
 -- `read_letters::last_alike` meets its contract: the test is the definition's, and an odd letter is kept at its byte. Assumes nothing.
 use mathlib.Core.Path.{sym}
-use borrow.Author.Rules.{rules}
 use Rattle.read_letters.proofs.Kept.{latest_even, latest_odd, with_even, with_odd, odd_half}
 use Rattle.read_letters.proofs.last_alike.Goals as goal
 

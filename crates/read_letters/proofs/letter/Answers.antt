@@ -1,6 +1,5 @@
 -- `read_letters::letter` meets its contract: the test is the definition's. Assumes nothing.
 use native.Mathlib.Omega.{arith}
-use borrow.Author.Rules.{rules}
 use Rattle.words.proofs.Letters.{letter_read, letter-unread}
 use Rattle.read_letters.proofs.letter.Goals as goal
 

@@ -1,11 +1,9 @@
 -- `row_cells::clear` meets its contract. The loop's invariant: the first i numbers are 0, and the rest is as it was; the measure is what is left of the
 -- slice. Assumes nothing.
 use Prim.Native.Nat.{◌-◌, ◌≤◌}
-use mathlib.Core.Path.{◌≡◌, refl}
+use mathlib.Core.Path.{◌≡◌}
 use mathlib.Core.List.{◌++◌}
-use native.Mathlib.Omega.{arith}
-use lib.ListN.{length, drop, replicate, length-set}
-use Rattle.row_cells.proofs.Cleared.{cleared_more, cleared-all}
+use lib.ListN.{length, drop, replicate}
 use Rattle.row_cells.proofs.clear.Given as goal
 
 abbrev pub invariant-loop-i : goal.invariant-loop-i

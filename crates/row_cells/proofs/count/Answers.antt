@@ -1,6 +1,5 @@
 -- `row_cells::count` meets its contract: a row is so many numbers. Assumes nothing.
 use mathlib.Core.Path.{refl}
-use borrow.Author.Rules.{rules}
 use Rattle.words.specs.Rows.{rows}
 use Rattle.row_cells.proofs.count.Goals as goal
 

@@ -1,11 +1,9 @@
 -- `row_cells::put` meets its contract. The loop's invariant: the first j numbers of the row are stored; the measure is what is left of it.
 -- Assumes nothing.
-use Prim.Native.Nat.{◌-◌, ◌≤◌}
-use mathlib.Core.Path.{◌≡◌, refl, sym}
+use mathlib.Core.Path.{refl, sym}
 use native.Mathlib.Omega.{arith}
-use lib.ListN.{length, take, length-set}
-use Rattle.row_cells.specs.Stored.{stored}
-use Rattle.row_cells.proofs.Stored.{stored-none, row_more, row_whole}
+use lib.ListN.{length-set}
+use Rattle.row_cells.proofs.Stored.{stored-none, row_more}
 use Rattle.row_cells.proofs.put.Goals as goal
 
 pub loop-j-init : goal.loop-j-init

@@ -1,6 +1,5 @@
 -- `row_entries::add_entry` meets its contract: the entry that it puts is the next one. Assumes nothing.
 use native.Mathlib.Omega.{arith}
-use borrow.Author.Rules.{rules}
 use Rattle.row_entries.proofs.Written.{size_is, entry_added, entry_lost}
 use Rattle.row_entries.proofs.add_entry.Goals as goal
 

@@ -1,7 +1,6 @@
 -- `row_entries::put_entry` meets its contract: four stores, one behind another. Assumes nothing.
 use native.Mathlib.Omega.{arith}
 use lib.ListN.{length-set}
-use borrow.Author.Rules.{rules}
 use Rattle.row_entries.proofs.Written.{size_is, put_four}
 use Rattle.row_entries.proofs.put_entry.Goals as goal
 

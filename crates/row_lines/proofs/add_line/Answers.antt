@@ -1,5 +1,4 @@
 -- `row_lines::add_line` meets its contract: the row that it adds is the line. Assumes nothing.
-use borrow.Author.Rules.{rules}
 use Rattle.row_lines.proofs.Written.{row_line}
 use Rattle.row_lines.proofs.add_line.Goals as goal
 

@@ -1,6 +1,5 @@
 -- `row_lines::copies_of` meets its contract: the number at its place. Assumes nothing.
 use mathlib.Core.Path.{◌∙◌}
-use borrow.Author.Rules.{rules}
 use Rattle.row_lines.proofs.Written.{copies-inside, copies_third}
 use Rattle.row_lines.proofs.copies_of.Goals as goal
 

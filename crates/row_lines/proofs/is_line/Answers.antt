@@ -3,7 +3,6 @@ use Prim.Native.Nat.{ℕ}
 use mathlib.Core.Path.{sym, ap, ◌∙◌}
 use native.Mathlib.Omega.{arith}
 use lib.Dec.{eqb}
-use borrow.Author.Rules.{rules}
 use Rattle.row_lines.proofs.Compared.{short_no, start_no, period_no, copies_tell}
 use Rattle.row_lines.proofs.is_line.Goals as goal
 

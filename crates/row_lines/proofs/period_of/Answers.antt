@@ -1,6 +1,5 @@
 -- `row_lines::period_of` meets its contract: the number at its place. Assumes nothing.
 use mathlib.Core.Path.{◌∙◌}
-use borrow.Author.Rules.{rules}
 use Rattle.words.proofs.LineLayout.{period_inside}
 use Rattle.row_lines.proofs.Written.{period_there}
 use Rattle.row_lines.proofs.period_of.Goals as goal

@@ -1,6 +1,5 @@
 -- `row_lines::start_of` meets its contract: the number at its place. Assumes nothing.
 use mathlib.Core.Path.{◌∙◌}
-use borrow.Author.Rules.{rules}
 use Rattle.row_lines.proofs.Written.{start_inside, start_first}
 use Rattle.row_lines.proofs.start_of.Goals as goal
 

@@ -1,7 +1,6 @@
 -- `row_matches::pass_line` meets its contract: the line stands at its place, or they differ. Assumes nothing.
 use mathlib.Core.Path.{sym, ◌∙◌}
 use native.Mathlib.Omega.{arith}
-use borrow.Author.Rules.{rules}
 use Rattle.words.proofs.LineLayout.{line_few}
 use Rattle.row_matches.proofs.Matching.{line_on, line-off}
 use Rattle.row_matches.proofs.pass_line.Goals as goal

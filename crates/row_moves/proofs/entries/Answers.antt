@@ -1,9 +1,5 @@
 -- `row_moves::entries` meets its contract: the rows of that size. Assumes nothing.
-use Prim.Native.Nat.{ℕ}
-use mathlib.Core.Path.{ap, ◌∙◌}
 use native.Mathlib.Omega.{arith}
-use borrow.Author.Rules.{rules}
-use Rattle.words.specs.Rows.{rows}
 use Rattle.words.proofs.MoveLayout.{move_some}
 use Rattle.row_moves.proofs.entries.Goals as goal
 

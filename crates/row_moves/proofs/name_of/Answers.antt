@@ -1,6 +1,5 @@
 -- `row_moves::name_of` meets its contract: the number at its place. Assumes nothing.
 use mathlib.Core.Path.{◌∙◌}
-use borrow.Author.Rules.{rules}
 use Rattle.row_moves.proofs.Read.{name-inside, name_second}
 use Rattle.row_moves.proofs.name_of.Goals as goal
 

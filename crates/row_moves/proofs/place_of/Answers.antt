@@ -1,6 +1,5 @@
 -- `row_moves::place_of` meets its contract: the number at its place. Assumes nothing.
 use mathlib.Core.Path.{◌∙◌}
-use borrow.Author.Rules.{rules}
 use Rattle.row_moves.proofs.Read.{place_inside, place_third}
 use Rattle.row_moves.proofs.place_of.Goals as goal
 

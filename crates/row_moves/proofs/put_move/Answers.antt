@@ -1,7 +1,6 @@
 -- `row_moves::put_move` meets its contract: the row that it puts is the move. Assumes nothing.
 use mathlib.Core.Path.{ap, ◌∙◌}
 use native.Mathlib.Omega.{arith}
-use borrow.Author.Rules.{rules}
 use Rattle.row_cells.specs.Stored.{stored}
 use Rattle.row_moves.proofs.Read.{size_is, row_move}
 use Rattle.row_moves.proofs.put_move.Goals as goal

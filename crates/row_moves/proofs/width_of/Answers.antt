@@ -1,6 +1,5 @@
 -- `row_moves::width_of` meets its contract: the number at its place. Assumes nothing.
 use mathlib.Core.Path.{◌∙◌}
-use borrow.Author.Rules.{rules}
 use Rattle.words.proofs.MoveLayout.{width_inside, width_cell_lem}
 use Rattle.row_moves.proofs.width_of.Goals as goal
 

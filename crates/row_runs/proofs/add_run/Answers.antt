@@ -1,5 +1,4 @@
 -- `row_runs::add_run` meets its contract: the row that it adds is the run. Assumes nothing.
-use borrow.Author.Rules.{rules}
 use Rattle.row_runs.proofs.Written.{row-run}
 use Rattle.row_runs.proofs.add_run.Goals as goal
 

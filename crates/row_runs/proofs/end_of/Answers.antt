@@ -1,7 +1,6 @@
 -- `row_runs::end_of` meets its contract: the number at its place. Assumes nothing.
 use mathlib.Core.Path.{◌∙◌}
 use native.Mathlib.Omega.{arith}
-use borrow.Author.Rules.{rules}
 use Rattle.row_runs.proofs.Written.{end-inside, end_second}
 use Rattle.row_runs.proofs.end_of.Goals as goal
 

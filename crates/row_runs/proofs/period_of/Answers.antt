@@ -1,6 +1,5 @@
 -- `row_runs::period_of` meets its contract: the number at its place. Assumes nothing.
 use mathlib.Core.Path.{◌∙◌}
-use borrow.Author.Rules.{rules}
 use Rattle.words_runs.proofs.RunLayout.{run_period_inside}
 use Rattle.row_runs.proofs.Written.{period_there}
 use Rattle.row_runs.proofs.period_of.Goals as goal

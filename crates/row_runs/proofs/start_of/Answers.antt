@@ -1,6 +1,5 @@
 -- `row_runs::start_of` meets its contract: the number at its place. Assumes nothing.
 use mathlib.Core.Path.{◌∙◌}
-use borrow.Author.Rules.{rules}
 use Rattle.row_runs.proofs.Written.{start_inside, start_first}
 use Rattle.row_runs.proofs.start_of.Goals as goal
 

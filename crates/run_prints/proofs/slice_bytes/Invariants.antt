@@ -1,7 +1,6 @@
 -- `run_prints::slice_bytes` meets its contract. The loop's invariant: i is within the slice; the measure is what is left of it. Assumes nothing.
 use Prim.Native.Nat.{◌≤◌, ◌-◌}
 use lib.ListN.{length}
-use borrow.Author.Rules.{rules}
 use Rattle.run_prints.proofs.slice_bytes.Given as goal
 
 abbrev pub invariant-loop-i : goal.invariant-loop-i

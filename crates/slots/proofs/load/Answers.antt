@@ -1,5 +1,4 @@
 -- `slots::load` meets its contract: the number at place i is the one at index i - 1. Assumes nothing.
-use borrow.Author.Rules.{rules}
 use Rattle.words.specs.Reads.{at}
 use Rattle.slots.proofs.load.Goals as goal
 

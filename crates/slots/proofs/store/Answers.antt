@@ -1,5 +1,4 @@
 -- `slots::store` meets its contract: place i is index i - 1. Assumes nothing.
-use borrow.Author.Rules.{rules}
 use Rattle.slots.specs.Slots.{put}
 use Rattle.slots.proofs.store.Goals as goal
 

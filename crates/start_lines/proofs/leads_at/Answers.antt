@@ -1,5 +1,4 @@
 -- `start_lines::leads_at` meets its contract. Assumes nothing.
-use borrow.Author.Rules.{rules}
 use borrow.Author.Tests.{le-leb, lt-leb}
 use Rattle.start_lines.specs.Lines.{leads_in}
 use Rattle.start_lines.proofs.leads_at.Goals as goal

@@ -1,13 +1,11 @@
 -- `start_lines::line_one` meets its contract: no line where the start is not listed, and else its line and its count. Assumes nothing.
 use mathlib.Core.Path.{◌≡◌, sym, ◌∙◌}
 use native.Mathlib.Omega.{arith}
-use borrow.Author.Tests.{not-true, not-false}
 use Rattle.words.proofs.Tests.{clash}
 use Rattle.start_lines.specs.Lines.{wanted_in}
 use Rattle.row_cells.proofs.Adding.{adds_none}
 use Rattle.start_lines.proofs.Lines.{wanted_tested, line_in_unwanted, line_in_wanted}
 use Rattle.start_lines.proofs.Counting.{counted-follows, counted_skip, counted_more}
-use borrow.Author.Rules.{rules}
 use Rattle.start_lines.proofs.line_one.Goals.{After-wants}
 use Rattle.start_lines.proofs.line_one.Goals as goal
 

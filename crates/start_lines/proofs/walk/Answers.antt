@@ -1,10 +1,9 @@
 -- `start_lines::walk` meets its contract. The loop's invariant: of the chain, e - 1 starts are passed, and it goes on at j; the measure is what is left
 -- of the array. Assumes nothing.
-use Prim.Native.Nat.{◌+◌, ◌-◌, ◌≤◌}
+use Prim.Native.Nat.{◌+◌, ◌≤◌}
 use mathlib.Core.Path.{◌≡◌, sym, ◌∙◌}
 use native.Mathlib.Omega.{arith}
 use Rattle.words.specs.Reads.{at}
-use Rattle.start_lines.specs.Lines.{chain}
 use Rattle.start_lines.proofs.Chains.{chain_on, chain_stop}
 use Rattle.start_lines.proofs.walk.Goals.{In-loop-e}
 use Rattle.start_lines.proofs.walk.Goals as goal

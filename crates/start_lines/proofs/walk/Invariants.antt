@@ -1,11 +1,8 @@
 -- `start_lines::walk` meets its contract. The loop's invariant: of the chain, e - 1 starts are passed, and it goes on at j; the measure is what is left
 -- of the array. Assumes nothing.
 use Prim.Native.Nat.{◌+◌, ◌-◌, ◌≤◌}
-use mathlib.Core.Path.{◌≡◌, sym, ◌∙◌}
-use native.Mathlib.Omega.{arith}
-use Rattle.words.specs.Reads.{at}
+use mathlib.Core.Path.{◌≡◌}
 use Rattle.start_lines.specs.Lines.{chain}
-use Rattle.start_lines.proofs.Chains.{chain_on, chain_stop}
 use Rattle.start_lines.proofs.walk.Given as goal
 
 abbrev pub invariant-loop-e : goal.invariant-loop-e

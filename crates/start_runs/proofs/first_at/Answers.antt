@@ -1,5 +1,4 @@
 -- `start_runs::first_at` meets its contract. Assumes nothing.
-use borrow.Author.Rules.{rules}
 use borrow.Author.Tests.{le-leb, lt-leb}
 use Rattle.start_runs.specs.Runs.{first_in}
 use Rattle.start_runs.proofs.first_at.Goals as goal

@@ -1,12 +1,8 @@
 -- `start_runs::last_at` meets its contract. The loop's invariant: the places from i to below j have a start just after them, and j a place p after it; the
 -- measure is what is left of the array. Assumes nothing.
-use Prim.Native.Nat.{suc, ◌+◌, ◌-◌, ◌≤◌}
-use mathlib.Core.Path.{◌≡◌, refl, sym, ap, ◌∙◌}
-use native.Mathlib.Omega.{arith}
-use Rattle.words.specs.Reads.{at}
-use Rattle.words.proofs.Searches.{Missed, missed_none, missed_more}
+use Prim.Native.Nat.{◌+◌, ◌-◌, ◌≤◌}
+use Rattle.words.proofs.Searches.{Missed}
 use Rattle.start_runs.specs.Runs.{ends_in}
-use Rattle.start_runs.proofs.Rows.{ends-not, last_found}
 use Rattle.start_runs.proofs.last_at.Given as goal
 
 abbrev pub invariant-loop-j : goal.invariant-loop-j

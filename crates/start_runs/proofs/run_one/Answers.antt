@@ -1,8 +1,6 @@
 -- `start_runs::run_one` meets its contract: no run where a start stands just before, and else the run. Assumes nothing.
 use mathlib.Core.Path.{sym, ◌∙◌}
 use native.Mathlib.Omega.{arith}
-use borrow.Author.Tests.{not-true, not-false}
-use borrow.Author.Rules.{rules}
 use Rattle.row_cells.proofs.Adding.{adds_none}
 use Rattle.start_runs.proofs.Runs.{run_in_later, run_in_first}
 use Rattle.start_runs.proofs.run_one.Goals as goal

@@ -1,12 +1,10 @@
 -- `step2_bits::take_least` meets its contract: the lowest bit of the lowest word that has any is cleared, and that word's bit of the last one if no
 -- more is left. Assumes nothing.
 use mathlib.Core.Path.{refl, sym}
-use mathlib.Core.Logic.{⊎_elim}
 use native.Mathlib.Omega.{arith}
 use Rattle.slots.proofs.Laws.{some-none}
 use Rattle.step2_bits.specs.Sets.{flags}
-use Rattle.step2_bits.proofs.Places.{none_first, word_low, word_full, least_high, least_first, taken_kept, taken_lost}
-use borrow.Author.Rules.{rules}
+use Rattle.step2_bits.proofs.Places.{none_first, word_low, word_full, least_first, taken_kept, taken_lost}
 use Rattle.step2_bits.proofs.take_least.Goals.{then-left-eq0, else-left-eq0}
 use Rattle.step2_bits.proofs.take_least.Goals as goal
 

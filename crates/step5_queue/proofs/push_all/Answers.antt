@@ -1,16 +1,13 @@
 -- `step5_queue::push_all` meets its contract: the small groups are taken in the order of their names, and all together give the queue. The measure is
 -- what is left of the names. Assumes nothing.
-use Prim.Native.Nat.{ℕ, ◌-◌}
 use mathlib.Core.Path.{◌≡◌}
-use mathlib.Core.List.{List}
 use native.Mathlib.Omega.{arith}
-use borrow.Author.Rules.{rules}
 use lib.ListN.{length}
-use Rattle.slots.specs.Slots.{view, put_some}
+use Rattle.slots.specs.Slots.{view}
 use Rattle.slots.proofs.Laws.{view-length}
 use Rattle.step1_rows.specs.Rows.{row, NAME}
-use Rattle.step2_bits.specs.Sets.{flags, Sound, First}
-use Rattle.step2_bits.proofs.Emptying.{done, taken_less}
+use Rattle.step2_bits.specs.Sets.{flags}
+use Rattle.step2_bits.proofs.Emptying.{taken_less}
 use Rattle.step5_queue.specs.Filling.{group_of, Grown, Grouped, Group}
 use Rattle.step5_queue.proofs.Passing.{Ahead, ahead_start, ahead_group, ahead-next, ahead-end, ahead_few}
 use Rattle.step5_queue.proofs.push_all.Goals.{After-push_group-k, After-wide, At-loop-s, Start}

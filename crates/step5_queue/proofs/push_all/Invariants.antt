@@ -3,16 +3,12 @@
 use Prim.Native.Nat.{ℕ, ◌-◌}
 use mathlib.Core.Path.{◌≡◌}
 use mathlib.Core.List.{List}
-use native.Mathlib.Omega.{arith}
-use borrow.Author.Rules.{rules}
 use lib.ListN.{length}
 use Rattle.slots.specs.Slots.{view, put_some}
-use Rattle.slots.proofs.Laws.{view-length}
 use Rattle.step1_rows.specs.Rows.{row, NAME}
 use Rattle.step2_bits.specs.Sets.{flags, Sound, First}
-use Rattle.step2_bits.proofs.Emptying.{done, taken_less}
-use Rattle.step5_queue.specs.Filling.{group_of, Grown, Grouped, Group}
-use Rattle.step5_queue.proofs.Passing.{Ahead, ahead_start, ahead_group, ahead-next, ahead-end, ahead_few}
+use Rattle.step2_bits.proofs.Emptying.{done}
+use Rattle.step5_queue.proofs.Passing.{Ahead}
 use Rattle.step5_queue.proofs.push_all.Given as goal
 
 abbrev pub invariant-loop-s : goal.invariant-loop-s

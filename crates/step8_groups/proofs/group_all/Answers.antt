@@ -1,10 +1,6 @@
 -- `step8_groups::group_all` meets its contract. The loop's invariant, for each table and each queue that it may be asked of: the first q groups had
 -- their turns. The measure is how many are left. Assumes nothing.
-use Prim.Native.Nat.{ℕ, ◌-◌}
-use mathlib.Core.List.{List}
 use native.Mathlib.Omega.{arith}
-use Rattle.step8_groups.specs.Turns.{TurnedTo}
-use Rattle.step8_groups.specs.Groups.{Turnable}
 use Rattle.step8_groups.proofs.Grouping.{turns_begin, turn_asked, turn-made, turns_end}
 use Rattle.step8_groups.proofs.group_all.Goals as goal
 

@@ -2,10 +2,8 @@
 -- their turns. The measure is how many are left. Assumes nothing.
 use Prim.Native.Nat.{ℕ, ◌-◌}
 use mathlib.Core.List.{List}
-use native.Mathlib.Omega.{arith}
 use Rattle.step8_groups.specs.Turns.{TurnedTo}
 use Rattle.step8_groups.specs.Groups.{Turnable}
-use Rattle.step8_groups.proofs.Grouping.{turns_begin, turn_asked, turn-made, turns_end}
 use Rattle.step8_groups.proofs.group_all.Given as goal
 
 abbrev pub invariant-loop-q : goal.invariant-loop-q

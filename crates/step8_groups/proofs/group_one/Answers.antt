@@ -1,7 +1,6 @@
 -- `step8_groups::group_one` meets its contract: its three cases are those of a turn. Assumes nothing.
 use Prim.Native.Nat.{◌≤◌}
 use native.Mathlib.Omega.{arith}
-use borrow.Author.Rules.{rules}
 use Rattle.step8_groups.proofs.Turning.{turn_gone, turn-same, turn-walk, turn_renamed}
 use Rattle.step8_groups.proofs.group_one.Goals as goal
 

@@ -1,13 +1,7 @@
 -- `step8_groups::rename` meets its contract. The loop's invariant, for each table that it may be asked of: the group's positions up to j hold h, and d
 -- is the distance ahead. The measure is what is left of 1000. Assumes nothing.
-use Prim.Native.Nat.{◌+◌, ◌-◌, ◌≤◌}
-use mathlib.Core.Path.{refl}
-use native.Mathlib.Omega.{arith}
-use borrow.Author.Rules.{rules}
-use Rattle.step1_rows.specs.Rows.{NAME, DIST}
-use Rattle.step1_rows.proofs.Laws.{row_other}
+use Prim.Native.Nat.{◌-◌}
 use Rattle.step8_groups.specs.Sweep.{SweepingRows}
-use Rattle.step8_groups.proofs.Sweeps.{sweep_begins, sweep_inside, sweep_goes_on, sweep_ends}
 use Rattle.step8_groups.proofs.rename.Given as goal
 
 abbrev pub invariant-loop-d : goal.invariant-loop-d

@@ -2,7 +2,7 @@
 use native.Mathlib.Numerals.{add-one}
 use native.Mathlib.Omega.{arith}
 use borrow.Author.Rules.{rules}
-use Rattle.steps.proofs.Walks.{onward_ends, onward_stops, onward_goes}
+use Rattle.steps.proofs.Walks.{onward_stops, onward_goes}
 use Rattle.steps.proofs.onward.Goals as goal
 
 pub returns-then-moves-eq0 : goal.returns-then-moves-eq0

@@ -1,7 +1,6 @@
 -- `text_bytes::put_byte` meets its contract: the byte itself or its digits, by the test. Assumes nothing.
 use mathlib.Core.Path.{sym, ◌∙◌}
 use native.Mathlib.Omega.{arith}
-use borrow.Author.Rules.{rules}
 use Rattle.text_puts.proofs.Putting.{puts_byte}
 use Rattle.text_bytes.proofs.Bytes.{byte_itself, byte_digits}
 use Rattle.text_bytes.proofs.put_byte.Goals as goal

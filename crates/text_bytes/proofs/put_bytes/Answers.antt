@@ -1,11 +1,8 @@
 -- `text_bytes::put_bytes` meets its contract: after i turns the first i bytes are put. Assumes nothing.
-use Prim.Native.Nat.{◌≤◌, ◌-◌}
 use mathlib.Core.Path.{◌≡◌, refl}
 use native.Mathlib.Omega.{arith}
 use lib.ListN.{length, get_or}
-use borrow.Author.Rules.{rules}
 use Rattle.words.specs.Range.{gather}
-use Rattle.text_puts.specs.Puts.{Puts}
 use Rattle.text_puts.proofs.Putting.{puts_none}
 use Rattle.text_puts.proofs.Pieces.{turn-room, turn_puts}
 use Rattle.text_bytes.specs.Bytes.{byte_text, bytes_text}

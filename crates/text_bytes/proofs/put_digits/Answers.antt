@@ -2,7 +2,6 @@
 use native.Mathlib.Omega.{arith}
 use mathlib.Core.Path.{◌≡◌}
 use lib.ListN.{take}
-use borrow.Author.Rules.{rules}
 use Rattle.io.specs.Digits.{last_digits}
 use Rattle.text_puts.specs.Ascii.{ascii}
 use Rattle.text_puts.proofs.Putting.{room-left, puts_room, puts_more}

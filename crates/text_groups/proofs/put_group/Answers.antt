@@ -1,6 +1,5 @@
 -- `text_groups::put_group` meets its contract: the four pieces of its line, one after another. Assumes nothing.
 use native.Mathlib.Omega.{arith}
-use borrow.Author.Rules.{rules}
 use Rattle.text_puts.proofs.Putting.{puts_none}
 use Rattle.text_puts.specs.Ascii.{ascii}
 use Rattle.text_groups.proofs.Shapes.{group_none}

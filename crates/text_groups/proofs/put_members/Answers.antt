@@ -1,12 +1,8 @@
 -- `text_groups::put_members` meets its contract: the members before the link are put, all of them where it is none. Assumes nothing.
-use Prim.Native.Nat.{◌-◌}
 use mathlib.Core.Path.{◌≡◌, refl}
 use native.Mathlib.Omega.{arith}
-use lib.ListN.{length}
-use borrow.Author.Rules.{rules}
-use Rattle.text_puts.specs.Puts.{Puts}
 use Rattle.text_puts.proofs.Putting.{puts_none}
-use Rattle.text_groups.proofs.Walks.{passed, passed_text, Link, next-link, walk_start, walk_end, on_is, walk_less, walk-room, walk_puts}
+use Rattle.text_groups.proofs.Walks.{next-link, walk_start, walk_end, on_is, walk_less, walk-room, walk_puts}
 use Rattle.text_groups.proofs.put_members.Goals as goal
 
 pub loop-i-init : goal.loop-i-init

@@ -1,12 +1,9 @@
 -- `text_groups::put_members` meets its contract: the members before the link are put, all of them where it is none. Assumes nothing.
 use Prim.Native.Nat.{◌-◌}
-use mathlib.Core.Path.{◌≡◌, refl}
-use native.Mathlib.Omega.{arith}
+use mathlib.Core.Path.{◌≡◌}
 use lib.ListN.{length}
-use borrow.Author.Rules.{rules}
 use Rattle.text_puts.specs.Puts.{Puts}
-use Rattle.text_puts.proofs.Putting.{puts_none}
-use Rattle.text_groups.proofs.Walks.{passed, passed_text, Link, next-link, walk_start, walk_end, on_is, walk_less, walk-room, walk_puts}
+use Rattle.text_groups.proofs.Walks.{passed, passed_text, Link}
 use Rattle.text_groups.proofs.put_members.Given as goal
 
 abbrev pub invariant-loop-i : goal.invariant-loop-i

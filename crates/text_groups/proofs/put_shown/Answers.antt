@@ -1,5 +1,4 @@
 -- `text_groups::put_shown` meets its contract: the text is there or not, by the test. Assumes nothing.
-use borrow.Author.Rules.{rules}
 use Rattle.text_puts.proofs.Putting.{puts_none}
 use Rattle.text_groups.proofs.Shapes.{shown_yes, shown_no}
 use Rattle.text_groups.proofs.put_shown.Goals as goal

@@ -1,11 +1,9 @@
 -- `text_groups::put_singles` meets its contract: after i turns those alone among the first i positions are put. Assumes nothing.
-use Prim.Native.Nat.{◌+◌, ◌≤◌, ◌-◌}
+use Prim.Native.Nat.{◌+◌}
 use mathlib.Core.Path.{◌≡◌, refl}
 use native.Mathlib.Omega.{arith}
 use lib.ListN.{length}
-use borrow.Author.Rules.{rules}
 use Rattle.words.specs.Range.{gather}
-use Rattle.text_puts.specs.Puts.{Puts}
 use Rattle.text_puts.proofs.Putting.{puts_none}
 use Rattle.text_groups.specs.Groups.{single_text, singles_text}
 use Rattle.text_puts.proofs.Pieces.{turn-room, turn_puts}

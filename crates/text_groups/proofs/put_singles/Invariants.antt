@@ -1,15 +1,10 @@
 -- `text_groups::put_singles` meets its contract: after i turns those alone among the first i positions are put. Assumes nothing.
-use Prim.Native.Nat.{◌+◌, ◌≤◌, ◌-◌}
-use mathlib.Core.Path.{◌≡◌, refl}
-use native.Mathlib.Omega.{arith}
+use Prim.Native.Nat.{◌≤◌, ◌-◌}
+use mathlib.Core.Path.{◌≡◌}
 use lib.ListN.{length}
-use borrow.Author.Rules.{rules}
 use Rattle.words.specs.Range.{gather}
 use Rattle.text_puts.specs.Puts.{Puts}
-use Rattle.text_puts.proofs.Putting.{puts_none}
-use Rattle.text_groups.specs.Groups.{single_text, singles_text}
-use Rattle.text_puts.proofs.Pieces.{turn-room, turn_puts}
-use Rattle.text_groups.proofs.Cells.{single_is}
+use Rattle.text_groups.specs.Groups.{single_text}
 use Rattle.text_groups.proofs.put_singles.Given as goal
 
 abbrev pub invariant-loop-i : goal.invariant-loop-i

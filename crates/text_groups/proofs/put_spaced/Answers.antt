@@ -1,7 +1,6 @@
 -- `text_groups::put_spaced` meets its contract: a space, then the digits that were made. Assumes nothing.
 use mathlib.Core.Path.{◌≡◌}
 use lib.ListN.{take}
-use borrow.Author.Rules.{rules}
 use Rattle.text_puts.specs.Numbers.{decimal}
 use Rattle.text_puts.proofs.Decimals.{decimal_is}
 use Rattle.text_puts.proofs.Putting.{room-left, puts_room, puts_more}

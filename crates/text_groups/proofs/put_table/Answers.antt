@@ -1,9 +1,6 @@
 -- `text_groups::put_table` meets its contract: the table is linked, and its two texts are put, one after the other. Assumes nothing.
-use mathlib.Core.Path.{sym}
-use lib.Seq.{length-take-le}
-use borrow.Author.Rules.{rules}
 use Rattle.bench_links.proofs.Pass.{bare_zeros}
-use Rattle.text_puts.proofs.Pieces.{front-room, back-room, both_puts}
+use Rattle.text_puts.proofs.Pieces.{both_puts}
 use Rattle.text_groups.proofs.put_table.Goals as goal
 
 pub link-k-requires : goal.link-k-requires

@@ -1,5 +1,4 @@
 -- `text_puts::ending` meets its contract: each way opens the definition's test. Assumes nothing.
-use borrow.Author.Rules.{rules}
 use borrow.Author.Tests.{eq-eqb, ne_eqb}
 use Rattle.text_puts.specs.Numbers.{ending}
 use Rattle.text_puts.proofs.ending.Goals as goal

@@ -1,8 +1,6 @@
 -- `text_puts::put_cell` meets its contract: the number is read, and `ending` says what follows it. Assumes nothing.
 use mathlib.Core.Path.{sym}
-use native.Mathlib.Omega.{arith}
 use Rattle.text_puts.specs.Numbers.{cell_text}
-use borrow.Author.Rules.{rules}
 use Rattle.text_puts.proofs.put_cell.Goals as goal
 
 pub put_number-requires : goal.put_number-requires

@@ -4,7 +4,6 @@ use lib.ListN.{take}
 use mathlib.Core.Path.{◌≡◌}
 use Rattle.text_puts.specs.Numbers.{decimal}
 use Rattle.text_puts.proofs.Decimals.{decimal_is, digits_room, byte_room, number_puts}
-use borrow.Author.Rules.{rules}
 use Rattle.text_puts.proofs.put_number.Goals.{After-decimal-k}
 use Rattle.text_puts.proofs.put_number.Goals as goal
 

@@ -1,13 +1,10 @@
 -- `text_puts::put_numbers` meets its contract: after i turns the texts of the row's first i numbers are put. Assumes nothing.
-use Prim.Native.Nat.{◌≤◌, ◌-◌}
 use mathlib.Core.Path.{◌≡◌, refl}
 use native.Mathlib.Nat.{zero-add}
 use native.Mathlib.Omega.{arith}
 use lib.ListN.{length}
-use borrow.Author.Rules.{rules}
 use Rattle.words.specs.Range.{gather}
 use Rattle.text_puts.specs.Numbers.{cell_text, numbers_text}
-use Rattle.text_puts.specs.Puts.{Puts}
 use Rattle.text_puts.proofs.Putting.{puts_none}
 use Rattle.text_puts.proofs.Pieces.{turn-room, turn_puts}
 use Rattle.text_puts.proofs.put_numbers.Goals as goal

@@ -1,11 +1,8 @@
 -- `text_puts::put_word` meets its contract: after i turns the buffer has the word's first i bytes pasted at the place. Assumes nothing.
-use Prim.Native.Nat.{◌≤◌, ◌-◌}
-use mathlib.Core.Path.{◌≡◌, refl}
 use native.Mathlib.Numerals.{add-one}
 use native.Mathlib.Omega.{arith}
-use lib.ListN.{length, length-set}
-use lib.Seq.{paste, paste-zero, paste-suc}
-use borrow.Author.Rules.{rules}
+use lib.ListN.{length-set}
+use lib.Seq.{paste-suc}
 use Rattle.text_puts.proofs.Putting.{puts_pasted}
 use Rattle.text_puts.proofs.put_word.Goals as goal
 

@@ -1,7 +1,6 @@
 -- `lines` meets its contract: a line starts at or before the byte that is looked at, and the measure is what is left. Assumes nothing.
 use Prim.Native.Nat.{◌≤◌, ◌-◌}
 use lib.ListN.{length}
-use borrow.Author.Rules.{rules}
 use Rattle.walk_widths.proofs.lines.Given as goal
 
 abbrev pub invariant-loop-i : goal.invariant-loop-i

@@ -1,11 +1,7 @@
 -- `members` meets its contract: the places f that the set had are taken one after the other, and the measure is what is left of them. Assumes nothing.
-use Prim.Native.Nat.{ℕ, ◌-◌}
-use mathlib.Core.List.{List}
 use native.Mathlib.Omega.{arith}
-use borrow.Author.Rules.{rules}
-use Rattle.step2_bits.specs.Sets.{flags, Sound}
 use Rattle.step2_bits.proofs.Flags.{flags-length}
-use Rattle.step2_bits.proofs.Emptying.{done, Taken, after_none, taken, taken_inside, taken_less}
+use Rattle.step2_bits.proofs.Emptying.{after_none, taken, taken_inside, taken_less}
 use Rattle.walk_widths.proofs.members.Goals as goal
 
 pub loop-s-init : goal.loop-s-init

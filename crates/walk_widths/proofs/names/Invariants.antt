@@ -1,6 +1,5 @@
 -- `names` meets its contract: the places up to i are printed, and the measure is what is left. Assumes nothing.
 use Prim.Native.Nat.{◌≤◌, ◌-◌}
-use borrow.Author.Rules.{rules}
 use Rattle.walk_widths.proofs.names.Given as goal
 
 abbrev pub invariant-loop-i : goal.invariant-loop-i

@@ -1,10 +1,7 @@
 -- `widths` meets its contract: the partition stays good from width to width, and the measure is what is left of the widths. Assumes nothing.
 use Prim.Native.Nat.{◌≤◌, ◌-◌}
 use mathlib.Core.Path.{◌≡◌}
-use native.Mathlib.Omega.{arith}
 use Rattle.partition.specs.Stand.{Good}
-use Rattle.partition.proofs.OfRead.{of_good}
-use borrow.Author.Rules.{rules}
 use Rattle.walk_widths.proofs.widths.Given as goal
 
 abbrev pub invariant-loop-w : goal.invariant-loop-w
