@@ -1,4 +1,6 @@
 // A line at the bench: the list, the log and the runs of its read are made, and from them its view is collected, or the refusal of its list.
+#![tactic(auto)]
+
 ghost use Rattle.std.specs.Prelude.{◌≡◌, ◌*◌, ◌≤◌, length, take};
 ghost use Rattle.words.specs.Reads.{most};
 ghost use Rattle.words.specs.Lists.{line_size, lines, line_count, in_mode};
@@ -13,9 +15,11 @@ use row_lines::{line_size, room};
 use row_moves::move_size;
 use row_runs::run_size;
 use text_outs::Out;
+use text_pipes::Pipes;
 
 // shows a read from its own log, list and runs
 fn show_lists(
+    pipes: Pipes,
     read: &[u8],
     log: &[u16],
     list: &[u16],
@@ -26,17 +30,24 @@ fn show_lists(
     requires { Own read.now log.now list.now runs.now × Roomy buf.old start.used }
     ensures { Collects buf.old start (read_view read.now) buf.new result }
 {
-    let o = collect_head(read, buf, start);
-    let p = show_widths(read, log, list, runs, buf, o);
+    let o = collect_head(pipes, read, buf, start);
+    let p = show_widths(pipes, read, log, list, runs, buf, o);
     let whole = p.listed == room(list);
     let out = p.out;
     let differ = first_differ(p.differ, whole, widths(read.len()) + 1);
-    let o = collect_verdict(differ, buf, out);
-    collect_accord(list, runs, buf, o)
+    let o = collect_verdict(pipes, differ, buf, out);
+    collect_accord(pipes, list, runs, buf, o)
 }
 
 // shows a read whose list of `count` lines is made; the log has room for that of any read, and no read has more runs than lines
-fn show_read(read: &[u8], list: &[u16], count: usize, buf: &mut [u8], start: Out) -> Out
+fn show_read(
+    pipes: Pipes,
+    read: &[u8],
+    list: &[u16],
+    count: usize,
+    buf: &mut [u8],
+    start: Out,
+) -> Out
     requires { (length read.now ≤ most) × (line_size * count ≤ length list.now) × (take (line_size * count) list.now ≡ lines read.now (in_mode read.now 0))
         × (line_count read.now (in_mode read.now 0) ≤ 10000) × Roomy buf.old start.used }
     ensures { Collects buf.old start (read_view read.now) buf.new result }
@@ -48,18 +59,26 @@ fn show_read(read: &[u8], list: &[u16], count: usize, buf: &mut [u8], start: Out
     let maximal = call_answers::runs_listed(call_runs::runs(read, &mut runs));
     let ran = run_size() * maximal.value as usize;
     let size = line_size() * count;
-    show_lists(read, &log[..moves], &list[..size], &runs[..ran], buf, start)
+    show_lists(
+        pipes,
+        read,
+        &log[..moves],
+        &list[..size],
+        &runs[..ran],
+        buf,
+        start,
+    )
 }
 
 // shows the read of a line of `len` bytes, or says why its list was refused; the list has room for 10,000 lines
-pub fn show(line: &[u8], len: usize, buf: &mut [u8], start: Out) -> Out
+pub fn show(pipes: Pipes, line: &[u8], len: usize, buf: &mut [u8], start: Out) -> Out
     requires { (1001 ≤ length line.now) × Roomy buf.old start.used }
     ensures { Viewed line.now len buf.old start buf.new result }
 {
     let mut list = [0u16; 30000];
     let a = call_answers::listed(text_hears::hear(line, len, &mut list));
     if a.number == 0 {
-        return show_read(&line[..len], &list, a.value as usize, buf, start);
+        return show_read(pipes, &line[..len], &list, a.value as usize, buf, start);
     }
-    collect_refusal(a.number as u64, a.value, buf, start)
+    collect_refusal(pipes, a.number as u64, a.value, buf, start)
 }

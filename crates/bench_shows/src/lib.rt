@@ -1,6 +1,8 @@
 // One width of a read shown from its table, and the other lines of the view: each text is collected behind what was collected before, once
 // there is room for the longest one. `show_table` cuts out the width's parts of the log, of the list and of the runs, and compares the list with the groups;
 // `collect_accord` compares the list with the runs.
+#![tactic(auto)]
+
 ghost use Rattle.std.specs.Prelude.{◌≡◌, ◌∷◌, [], ◌^◌, ◌≤◌, ◌<◌, length};
 ghost use Rattle.words.specs.Reads.{most};
 ghost use Rattle.words.specs.Rows.{rows};
@@ -19,13 +21,14 @@ use row_lines::{line_size, period_cell};
 use row_moves::{entries, move_size, width_cell};
 use row_runs::{run_period_cell, run_size};
 use text_outs::Out;
+use text_pipes::Pipes;
 
 // collects the first line of a read's view
-pub fn collect_head(read: &[u8], buf: &mut [u8], start: Out) -> Out
+pub fn collect_head(pipes: Pipes, read: &[u8], buf: &mut [u8], start: Out) -> Out
     requires { (length read.now ≤ most) × Roomy buf.old start.used }
     ensures { Collects buf.old start (head_text read.now) buf.new result }
 {
-    let o = text_outs::room(buf, 4 * read.len() + 27, start);
+    let o = text_outs::room(pipes, buf, 4 * read.len() + 27, start);
     let at = o.used;
     let end = text_views::put_head(buf, at, read);
     Out {
@@ -36,6 +39,7 @@ pub fn collect_head(read: &[u8], buf: &mut [u8], start: Out) -> Out
 
 // collects the text of one width
 fn collect_width(
+    pipes: Pipes,
     w: usize,
     table: &[u16],
     moves: &[u16],
@@ -50,7 +54,7 @@ fn collect_width(
 {
     let rows = row_lines::room(lines) + row_runs::room(runs);
     let need = 27 * (table.len() + entries(moves)) + 57 * rows + 64;
-    let o = text_outs::room(buf, need, start);
+    let o = text_outs::room(pipes, buf, need, start);
     let at = o.used;
     let end = text_views::put_width(buf, at, w, table, moves, lines, runs);
     Out {
@@ -60,11 +64,11 @@ fn collect_width(
 }
 
 // collects the last line but one, by the first width at which list and groups differ, 0 for none
-pub fn collect_verdict(w: usize, buf: &mut [u8], start: Out) -> Out
+pub fn collect_verdict(pipes: Pipes, w: usize, buf: &mut [u8], start: Out) -> Out
     requires { Roomy buf.old start.used }
     ensures { Collects buf.old start (verdict_text w) buf.new result }
 {
-    let o = text_outs::room(buf, 64, start);
+    let o = text_outs::room(pipes, buf, 64, start);
     let at = o.used;
     let end = text_views::put_verdict(buf, at, w);
     Out {
@@ -74,12 +78,12 @@ pub fn collect_verdict(w: usize, buf: &mut [u8], start: Out) -> Out
 }
 
 // collects the last line: do this list and these runs agree?
-pub fn collect_accord(list: &[u16], runs: &[u16], buf: &mut [u8], start: Out) -> Out
+pub fn collect_accord(pipes: Pipes, list: &[u16], runs: &[u16], buf: &mut [u8], start: Out) -> Out
     requires { Roomy buf.old start.used }
     ensures { Collects buf.old start (accord_text (agree list.now runs.now)) buf.new result }
 {
     let agree = runs_agree(list, runs);
-    let o = text_outs::room(buf, 64, start);
+    let o = text_outs::room(pipes, buf, 64, start);
     let at = o.used;
     let end = text_views::put_accord(buf, at, agree);
     Out {
@@ -89,11 +93,11 @@ pub fn collect_accord(list: &[u16], runs: &[u16], buf: &mut [u8], start: Out) ->
 }
 
 // collects a refusal
-pub fn collect_refusal(number: u64, value: u64, buf: &mut [u8], start: Out) -> Out
+pub fn collect_refusal(pipes: Pipes, number: u64, value: u64, buf: &mut [u8], start: Out) -> Out
     requires { (number < 2 ^ 32) × Roomy buf.old start.used }
     ensures { Collects buf.old start (refused_text number (value ∷ [])) buf.new result }
 {
-    let o = text_outs::room(buf, 64, start);
+    let o = text_outs::room(pipes, buf, 64, start);
     let at = o.used;
     let end = text_answers::put_refused(buf, at, number, value);
     Out {
@@ -124,6 +128,7 @@ pub struct Place {
 
 // shows one width, from its table, and compares
 pub fn show_table(
+    pipes: Pipes,
     table: &[u16],
     log: &[u16],
     list: &[u16],
@@ -146,7 +151,7 @@ pub fn show_table(
     let listed = start + row_lines::room(lines);
     let maximal = part_from(runs, run_size(), run_period_cell(), w, first);
     let ran = first + row_runs::room(maximal);
-    let after = collect_width(w, table, moves, lines, maximal, buf, o);
+    let after = collect_width(pipes, w, table, moves, lines, maximal, buf, o);
     let agree = bench_agrees::agree_at(table, w, lines);
     Place {
         moved,

@@ -1,5 +1,7 @@
 // The widths of a read shown one after another. The groups come from the replay of the read's log alone, which goes on by one width at a time:
 // `name` holds the table of the width that is shown, and the log's entries of the width make it the next one.
+#![tactic(auto)]
+
 ghost use Rattle.std.specs.Prelude.{◌≡◌, ◌+◌, length};
 ghost use Rattle.words.specs.Range.{gather};
 ghost use Rattle.bench_shows.specs.Collecting.{Roomy, Collects};
@@ -10,6 +12,7 @@ use bench_shows::{Place, show_table};
 use call_renames::replay_width;
 use call_replays::first_groups;
 use text_outs::Out;
+use text_pipes::Pipes;
 
 // how many widths are shown of a read of n bytes
 pub fn widths(n: usize) -> usize
@@ -20,6 +23,7 @@ pub fn widths(n: usize) -> usize
 
 // shows every width of a read; the work rooms of the replay are empty between widths
 pub fn show_widths(
+    pipes: Pipes,
     read: &[u8],
     log: &[u16],
     list: &[u16],
@@ -50,7 +54,7 @@ pub fn show_widths(
     let mut w: u16 = 0;
     while w < top {
         w += 1;
-        p = show_table(&name[..n], log, list, runs, w as usize, buf, p);
+        p = show_table(pipes, &name[..n], log, list, runs, w as usize, buf, p);
         from = replay_width(
             &mut name, &mut mark, &mut lead, &mut part, log, n as u16, from, w,
         );

@@ -1,5 +1,7 @@
 // What `list` answers for a line of standard input, once for both programs: its list is made in mode 0, and a line over the limit is refused with its true
 // length, however many bytes of it are kept. `hear` promises the answer and the list of whatever line it is (`Hears`).
+#![tactic(auto)]
+
 ghost use Rattle.std.specs.Prelude.{◌≤◌, length};
 ghost use Rattle.words.specs.Answers.{listed_says};
 ghost use Rattle.text_hears.specs.Heard.{Hears};
@@ -12,7 +14,8 @@ pub fn hear(line: &[u8], len: usize, list: &mut [u16]) -> Listed
     requires { 1001 ≤ length line.now }
     ensures { Hears line.now len list.old (listed_says result) list.new }
 {
-    if MOST < len {
+    let over = MOST < len;
+    if over {
         return Listed::TooLong(len);
     }
     call_lists::list(&line[..len], 0, list)

@@ -1,8 +1,13 @@
 // Bytes cut into lines: the part of a chunk up to the next newline, behind what is already there of the line. A line may be longer than memory: as many of its
 // bytes as the line buffer has room for are kept, and the rest is counted. specs/Lines.antt says what the lines of an input are.
+#![tactic(auto)]
+
 ghost use Rattle.std.specs.Prelude.{◌≡◌, ◌+◌, ◌≤◌, length};
 ghost use Rattle.text_lines.specs.Lines.{line_end, kept, counted};
 ghost use Rattle.text_lines.specs.Parts.{Taken};
+
+// the byte that ends a line
+const NEWLINE: u8 = b'\n';
 
 // the place of the first newline from a place on, or the length
 fn newline(chunk: &[u8], from: usize) -> usize
@@ -11,7 +16,7 @@ fn newline(chunk: &[u8], from: usize) -> usize
 {
     let mut i = from;
     while i < chunk.len() {
-        if chunk[i] == b'\n' {
+        if chunk[i] == NEWLINE {
             return i;
         }
         i += 1;

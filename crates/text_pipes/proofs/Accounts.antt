@@ -11,11 +11,10 @@ use lib.Dec.{eqb}
 use mir.Syntax.{w64}
 use mir.Val.{of_z}
 use borrow.Author.Tests.{ne_eqb}
-use Rattle.libc.specs.Io.{Moved}
 use Rattle.io.specs.Counts.{clamp_len}
 use Rattle.text_pipes.specs.declared.Got.{Got}
 use Rattle.words.proofs.Ranges.{append-nil}
-use Rattle.text_pipes.specs.Accounts.{standard_input, standard_output, Call, moved, moved_by, all, Account, Write, at_end, Ended, Unread, Asked, Put, Handed}
+use Rattle.text_pipes.specs.Accounts.{Moved, standard_input, standard_output, Call, moved, moved_by, all, Account, Write, at_end, Ended, Unread, Asked, Put, Handed}
 
 pub moved_more : (cs ds : List Call) → moved_by (cs ++ ds) ≡ moved_by cs ++ moved_by ds
 moved_more [] ds = refl

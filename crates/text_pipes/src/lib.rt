@@ -1,41 +1,101 @@
 // The calls that reach outside: one read call, the write calls that take a text, and what is told of a failure on standard error. A call that
 // was interrupted, or that a pipe asks to come back later, is made again. `Gave` and `Wrote` say that a call was made and what it moved: the
 // programs' contracts rest on them, and only `ask` and `put` can give them.
-ghost use Rattle.text_pipes.specs.Accounts.{standard_output, Asked, Put, Handed};
+#![tactic(auto)]
 
-use libc::{STDERR_FILENO, STDOUT_FILENO};
+ghost use Rattle.std.specs.Prelude.{length};
+ghost use Rattle.text_pipes.specs.Accounts.{Moved, standard_output, Asked, Put, Handed};
 
-// whether the call that just failed is to be made again: a signal came in between, or it would have had to wait
-fn again() -> bool {
-    let e = os::errno();
-    if e == libc::EINTR {
-        return true;
-    }
-    if e == libc::EAGAIN {
-        libc::sched_yield();
-        return true;
-    }
-    false
+use std::env::FillError;
+use std::io::{Error, ErrorKind, Print, Read, Stderr, Stdin, Stdout, Write};
+use std::rt::Env;
+
+// the descriptors that a program is started with
+pub const STDIN_FILENO: i32 = 0;
+
+pub const STDOUT_FILENO: i32 = 1;
+
+pub const STDERR_FILENO: i32 = 2;
+
+// the system's number for a descriptor that is not open for such a call
+const EBADF: i32 = 9;
+
+// the leave to make calls on them
+#[derive(Clone, Copy)]
+pub struct Pipes {
+    pub input: Stdin,
+    pub output: Stdout,
+    pub errors: Stderr,
 }
 
-// what a read call gave: how many bytes, or that the input has ended; neither where it failed
+// whether the call that failed with this error is to be made again: a signal came in between, or it would have had to wait
+fn again(error: i32) -> bool {
+    match Error::from_raw_os_error(error).kind() {
+        ErrorKind::Interrupted => true,
+        ErrorKind::WouldBlock => true,
+        _ => false,
+    }
+}
+
+// one read call on a descriptor, of which only standard input is read: how many bytes it gave, -1 where it failed, and then its error
+fn read(pipes: Pipes, fd: i32, input: &mut [u8], error: &mut i32) -> isize
+    ensures { Moved (length input.new) result }
+{
+    let mut stdin = pipes.input;
+    if fd != STDIN_FILENO {
+        *error = EBADF;
+        return -1;
+    }
+    match stdin.read(input) {
+        Ok(n) => n as isize,
+        Err(e) => {
+            *error = e.raw_os_error().unwrap_or(0);
+            -1
+        }
+    }
+}
+
+// one write call on a descriptor: how many bytes it took, -1 where it failed, and then its error
+fn write(pipes: Pipes, fd: i32, bytes: &[u8], error: &mut i32) -> isize
+    ensures { Moved (length bytes.now) result }
+{
+    let mut stdout = pipes.output;
+    let mut stderr = pipes.errors;
+    let wrote = match fd {
+        STDOUT_FILENO => stdout.write(bytes),
+        STDERR_FILENO => stderr.write(bytes),
+        _ => Err(Error::from_raw_os_error(EBADF)),
+    };
+    match wrote {
+        Ok(n) => n as isize,
+        Err(e) => {
+            *error = e.raw_os_error().unwrap_or(0);
+            -1
+        }
+    }
+}
+
+// what a read call gave: how many bytes, or that the input has ended; neither where it failed, and then the system's number for its error
 #[derive(Drop)]
 pub struct Got {
     pub count: usize,
     pub ended: bool,
+    pub error: i32,
 }
 
 // one read call on a descriptor
-pub fn ask(fd: i32, input: &mut [u8]) -> Got
+pub fn ask(pipes: Pipes, fd: i32, input: &mut [u8]) -> Got
     ensures { Asked fd input.new result }
 {
     let mut turns = u64::MAX;
+    let mut error = 0;
     while turns > 0 {
-        let got = libc::read(fd, input);
-        if got >= 0 || !again() {
+        let got = read(pipes, fd, input, &mut error);
+        if got >= 0 || !again(error) {
             return Got {
                 count: io::count(got, input),
                 ended: got == 0,
+                error,
             };
         }
         turns -= 1;
@@ -43,17 +103,18 @@ pub fn ask(fd: i32, input: &mut [u8]) -> Got
     Got {
         count: 0,
         ended: false,
+        error,
     }
 }
 
 // one write call on a descriptor: how many bytes it took, 0 where it failed
-fn put(fd: i32, bytes: &[u8]) -> usize
+fn put(pipes: Pipes, fd: i32, bytes: &[u8], error: &mut i32) -> usize
     ensures { Put fd bytes.now result }
 {
     let mut turns = u64::MAX;
     while turns > 0 {
-        let got = libc::write(fd, bytes);
-        if got >= 0 || !again() {
+        let got = write(pipes, fd, bytes, error);
+        if got >= 0 || !again(*error) {
             return io::count(got, bytes);
         }
         turns -= 1;
@@ -62,19 +123,19 @@ fn put(fd: i32, bytes: &[u8]) -> usize
 }
 
 // one write call on standard output
-fn put_out(bytes: &[u8]) -> usize
+fn put_out(pipes: Pipes, bytes: &[u8], error: &mut i32) -> usize
     ensures { Put standard_output bytes.now result }
 {
-    put(STDOUT_FILENO, bytes)
+    put(pipes, STDOUT_FILENO, bytes, error)
 }
 
 // hands bytes to write calls on standard output, one after another, until all are taken or a call takes none: how many were taken
-pub fn hand(bytes: &[u8]) -> usize
+pub fn hand(pipes: Pipes, bytes: &[u8], error: &mut i32) -> usize
     ensures { Handed bytes.now result }
 {
     let mut done = 0;
     while done < bytes.len() {
-        let k = put_out(&bytes[done..]);
+        let k = put_out(pipes, &bytes[done..], error);
         if k == 0 {
             return done;
         }
@@ -84,26 +145,29 @@ pub fn hand(bytes: &[u8]) -> usize
 }
 
 // says on standard error that a read call failed and that the line so far, of `len` bytes, is not answered
-pub fn tell_unread(len: usize) {
-    io::write_all(STDERR_FILENO, b"reading failed behind ");
-    io::print_decimal(STDERR_FILENO, len as u64);
-    os::fail(b" bytes of a line, which is not answered");
+pub fn tell_unread(pipes: Pipes, len: usize, error: i32) {
+    let why = Error::from_raw_os_error(error);
+    let errors = pipes.errors;
+    let _ = eprintln!(errors;
+        "reading failed behind {len} bytes of a line, which is not answered: {why}"
+    );
 }
 
 // says on standard error that of a text of `all` bytes only `done` were written, and that nothing follows
-pub fn tell_unwritten(done: usize, all: usize) {
-    io::write_all(STDERR_FILENO, b"writing failed behind ");
-    io::print_decimal(STDERR_FILENO, done as u64);
-    io::write_all(STDERR_FILENO, b" of ");
-    io::print_decimal(STDERR_FILENO, all as u64);
-    os::fail(b" bytes: the last line may be cut, and the answers behind it are lost");
+pub fn tell_unwritten(pipes: Pipes, done: usize, all: usize, error: i32) {
+    let why = Error::from_raw_os_error(error);
+    let errors = pipes.errors;
+    let _ = eprintln!(errors;
+        "writing failed behind {done} of {all} bytes: the last line may be cut, and the answers behind it are lost: {why}"
+    );
 }
 
 // whether the program was started with any argument, as --help; then its use is written, and it ends
-pub fn helped(text: &[u8]) -> bool {
-    if os::arg_count() < 2 {
+pub fn helped(rt: &(impl Env + Print), text: &[u8]) -> bool {
+    let mut word = [0u8; 1];
+    if let Err(FillError::NotPresent) = rt.arg(1, &mut word) {
         return false;
     }
-    io::write_all(STDOUT_FILENO, text);
+    let _ = rt.write_all(text);
     true
 }

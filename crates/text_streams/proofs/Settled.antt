@@ -36,7 +36,7 @@ turned_is t h = ⊎_elim (λ c. c.turn) (λ w. absurd (omega (arith, h, w.plain)
 -- where a newline stands in the bytes that are there, a turn has no call to wait for: its line is found, of a settled length, and the input and
 -- the output go on at settled places
 pub turn_settled : (κs : _) (a : _) (x y : _) (e f : _) → turn.Learnt κs a x e → turn.Learnt κs a y f → (l : List ℕ) →
-    Keeps l a.1.1.1.0.source.len a.1.0.now → end_of a.0.now a.1.1.1.0.source < a.1.1.1.0.source.end → x ≡ y
+    Keeps l a.1.1.1.1.0.source.len a.1.1.0.now → end_of a.1.0.now a.1.1.1.1.0.source < a.1.1.1.1.0.source.end → x ≡ y
 turn_settled κs a x y e f p q l k h =
     let n : x.len ≡ y.len = (p.keeps l k).size ∙ sym (q.keeps l k).size in
-    turned_is p h ∙ ap (behind a.0.now a.1.1.1.0) n ∙ sym (turned_is q h)
+    turned_is p h ∙ ap (behind a.1.0.now a.1.1.1.1.0) n ∙ sym (turned_is q h)

@@ -1,17 +1,19 @@
 // Standard input cut into lines, and standard output collected into large writes. A turn takes the bytes that are there up to the next newline
 // or, where there is none, writes out what is collected and makes one read call: a program that waits for more has said all that it knows.
 // The contracts speak of all that read calls gave and write calls took (`text_pipes`): specs/Programs.antt says what a program then owes.
+#![tactic(auto)]
+
 ghost use Rattle.std.specs.Prelude.{◌≡◌, ◌-◌, ◌^◌, ◌≤◌, length};
 ghost use Rattle.text_streams.specs.Cuts.{Within, stopped, Waited, Turned};
 ghost use Rattle.text_streams.specs.Programs.{beginning, going};
 
-use libc::STDIN_FILENO;
 use text_lines::take_part;
 use text_outs::{Out, flush};
+use text_pipes::{Pipes, STDIN_FILENO};
 
 // where the input goes on: the bytes of the last read call from `from` to `end` are not taken yet, and `len` bytes of a line came before them;
 // `more` is false once the input has ended, or a read or a write failed
-#[derive(Drop)]
+#[derive(Clone, Copy)]
 pub struct Source {
     pub from: usize,
     pub end: usize,
@@ -20,7 +22,7 @@ pub struct Source {
 }
 
 // where a program stands between two turns
-#[derive(Drop)]
+#[derive(Clone, Copy)]
 pub struct State {
     pub source: Source,
     pub out: Out,
@@ -83,13 +85,13 @@ fn stop(found: bool, len: usize, out: Out) -> Next
 }
 
 // one read call behind a line of `len` bytes: at the end of the input the line counts if it is not empty, and after a failure it does not
-fn fill(input: &mut [u8], len: usize, out: Out) -> Next
+fn fill(pipes: Pipes, input: &mut [u8], len: usize, out: Out) -> Next
     ensures { Waited len out input.new result }
 {
     if !out.ok {
         return stop(false, len, out);
     }
-    let g = text_pipes::ask(STDIN_FILENO, input);
+    let g = text_pipes::ask(pipes, STDIN_FILENO, input);
     if 0 < g.count {
         return Next {
             found: false,
@@ -108,12 +110,12 @@ fn fill(input: &mut [u8], len: usize, out: Out) -> Next
     if g.ended {
         return stop(0 < len, len, out);
     }
-    text_pipes::tell_unread(len);
+    text_pipes::tell_unread(pipes, len, g.error);
     stop(false, len, out)
 }
 
 // the bytes that are there up to the next newline; where there is none, what is collected is written out, and one read call is made
-pub fn turn(input: &mut [u8], line: &mut [u8], buf: &[u8], s: State) -> Next
+pub fn turn(pipes: Pipes, input: &mut [u8], line: &mut [u8], buf: &[u8], s: State) -> Next
     requires { Within input.old s.source × (s.out.used ≤ length buf.now) }
     ensures { Turned input.old line.old buf.now s input.new line.new result }
 {
@@ -136,6 +138,6 @@ pub fn turn(input: &mut [u8], line: &mut [u8], buf: &[u8], s: State) -> Next
             },
         };
     }
-    let out = flush(buf, o);
-    fill(input, p.len, out)
+    let out = flush(pipes, buf, o);
+    fill(pipes, input, p.len, out)
 }
