@@ -1,5 +1,7 @@
 // Runs `claim` and `motif` (document 02, item 4): each verdict at its edge and in its place in the order, numbers whose products leave 32 bits, motifs with an N, and the limit
 // of a read. What they give all over the stored reads stands in their results.
+#![tactic(auto)]
+
 use run_prints::{answer_both, word};
 
 // the answer in the documents' numbers, and the part that is handed back

@@ -1,5 +1,7 @@
 // Runs `score` and `shown` (document 02, item 7): every refusal at its edge and in its place in the order, repeats at the edges of the primers, motifs of no repeat, the lines of
 // a house list, and the limit of a read. What they give for the stored reads stands in their results.
+#![tactic(auto)]
+
 use run_prints::{answer_both, number, slice_bytes, word};
 
 fn score_on(read: &[u8], left: &[u8], right: &[u8], motif: &[u8], reference: u8) {

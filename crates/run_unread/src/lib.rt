@@ -1,5 +1,7 @@
 // Runs the calls on reads with unread bases (document 02, item 2), and on the same reads with a small n: rooms at their edge, logs that are not the read's
 // own, claims and motifs over an N. What the stored reads have at every width stands there.
+#![tactic(auto)]
+
 use run_claims::claim_on;
 use run_sevens::{list_in, log_in, replay_in, table_in};
 
