@@ -26,7 +26,7 @@ runs-made : (c : After-run_size) →
     × (c.run_size.result * c.runs_listed-maximal.result.value ≤ length c.runs.new.out)
 runs-made c =
     rw c.run_size.ensures
-        (runs_whole _ _ c.requires.0 (ap (λ (a : Plain). a.value) c.runs_listed-maximal.ensures) runs-room c.requires.3 c.runs.ensures.0 c.runs.ensures.1)
+    (runs_whole _ _ c.requires.0 (ap (λ (a : Plain). a.value) c.runs_listed-maximal.ensures) runs-room c.requires.3 c.runs.ensures.0 c.runs.ensures.1)
 
 pub overflow_mul-ran : goal.overflow_mul-ran
 overflow_mul-ran c =

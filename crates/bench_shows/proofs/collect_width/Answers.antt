@@ -9,7 +9,7 @@ pub put_width-end-requires : goal.put_width-end-requires
 put_width-end-requires c =
     let t = c.type_inv in
     let h = need_holds _ _ _ _ c.requires.0 c.entries.ensures c.room.ensures c.room-2.ensures _ c.ranges.w.fits
-        (λ i. (t.moves i).fits) (λ i. (t.lines i).fits) (λ i. (t.runs i).fits) in
+    (λ i. (t.moves i).fits) (λ i. (t.lines i).fits) (λ i. (t.runs i).fits) in
     let f = need_few _ _ _ _ c.requires.0 c.entries.ensures c.room.ensures c.room-2.ensures in
     text_room _ _ h (omega (arith, f, c.requires.1.room)) c.room-o.ensures
 
@@ -17,6 +17,6 @@ pub returns : goal.returns
 returns c =
     let t = c.type_inv in
     let h = need_holds _ _ _ _ c.requires.0 c.entries.ensures c.room.ensures c.room-2.ensures _ c.ranges.w.fits
-        (λ i. (t.moves i).fits) (λ i. (t.lines i).fits) (λ i. (t.runs i).fits) in
+    (λ i. (t.moves i).fits) (λ i. (t.lines i).fits) (λ i. (t.runs i).fits) in
     let f = need_few _ _ _ _ c.requires.0 c.entries.ensures c.room.ensures c.room-2.ensures in
     text_collects _ _ h (omega (arith, f, c.requires.1.room)) c.room-o.ensures c.put_width-end.ensures

@@ -4,8 +4,7 @@ use lib.ListN.{length-replicate}
 use Rattle.bench_view.proofs.main.Goals as goal
 
 pub run-requires : goal.run-requires
-run-requires c =
-    (
-      omega (arith, length-replicate {A = ℕ} 1001 0),
-      record { room = omega (arith, length-replicate {A = ℕ} 262144 0); inside = omega arith },
-    )
+run-requires c = (
+  omega (arith, length-replicate {A = ℕ} 1001 0),
+  record { room = omega (arith, length-replicate {A = ℕ} 262144 0); inside = omega arith },
+)

@@ -1,5 +1,5 @@
 -- `bench_widths::show_widths` meets its contract: each turn collects one width and replays the next one.
-use Rattle.std.proofs.Common.{◌+◌, ◌≤◌, ◌≡◌, refl, length, arith}
+use Rattle.std.proofs.Common.{◌+◌, ◌≤◌, refl, length, arith}
 use lib.Seq.{length-take-le}
 use Rattle.words.specs.Range.{gather}
 use Rattle.refine.proofs.Zeros.{zeros_clean}
