@@ -1,4 +1,4 @@
-// The public calls of documents 01 and 02 for C, and for all that calls C: `rt staticlib sorunggyeo` makes the archive, c/sorunggyeo.h declares them.
+// The public calls of documents 01 and 02 for C, and for all that calls C: `rt lib`, in this folder, makes the archive, c/sorunggyeo.h declares them.
 // A slice is a pointer and a count. Each call promises what the same call of the library does, by the same definitions: `plain` puts an
 // answer into document 01's number (0 for success, else the refusal) and values, and the slice afterwards is a definition of the inputs.
 // None has a `requires`.
