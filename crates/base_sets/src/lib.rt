@@ -61,7 +61,8 @@ pub fn matches(read: u8, primer: u8) -> bool
     requires { (read < 16) × (primer < 16) }
     ensures { result ≡ matches_in read primer }
 {
-    if read == 0 {
+    let none = read == 0;
+    if none {
         return false;
     }
     read & primer == read

@@ -48,7 +48,8 @@ pub fn claim(read: &[u8], start: u32, period: u32, copies: u32) -> Claimed
         return Claimed::Shorter(root);
     }
     let count = copies_at(read, start, period);
-    if 2 <= copies && count == copies as usize {
+    let twice = 2 <= copies;
+    if twice && count == copies as usize {
         return Claimed::Yes;
     }
     Claimed::Copies(count)

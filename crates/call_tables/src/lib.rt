@@ -38,7 +38,8 @@ fn write_table(out: &mut [u16], read: &[u8], w: u16)
 fn is_width(n: u32, width: u32) -> bool
     ensures { result ≡ within 1 n width }
 {
-    if width < 1 {
+    let low = width < 1;
+    if low {
         return false;
     }
     width <= n

@@ -33,7 +33,8 @@ pub fn take_least(set: &mut [u64; 17]) -> u16
     let z = u64::trailing_zeros(word);
     let left = word & (word - 1);
     set[at] = left;
-    if left == 0 {
+    let last = left == 0;
+    if last {
         set[16] = words & (words - 1);
     }
     (64 * b + z + 1) as u16

@@ -67,7 +67,8 @@ fn move_one(a: &mut [[u16; 1000]; 12], w: u16, i: u16, made: Made) -> Made
     if 0 < t {
         return next_move(a, w, k, i, r, t, made);
     }
-    if 1 < r {
+    let several = 1 < r;
+    if several {
         return first_move(a, w, k, i, r, made);
     }
     made

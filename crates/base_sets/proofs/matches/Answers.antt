@@ -4,10 +4,10 @@ use Rattle.words_primers.specs.Bases.{matches}
 use Rattle.words_primers.proofs.Sets.{mask_lies}
 use Rattle.base_sets.proofs.matches.Goals as goal
 
-pub returns-then-read-eq0 : goal.returns-then-read-eq0
+pub returns-then-none : goal.returns-then-none
 unfolding matches
-returns-then-read-eq0 c = rw (eq-eqb _ _ c.if-read-eq0.true)
+returns-then-none c = rw (eq-eqb _ _ c.if-none.true)
 
 pub returns : goal.returns
 unfolding matches
-returns c = rw (ne_eqb _ _ c.if-read-eq0.false) (mask_lies _ _ c.requires.0 c.requires.1)
+returns c = rw (ne_eqb _ _ c.if-none.false) (mask_lies _ _ c.requires.0 c.requires.1)

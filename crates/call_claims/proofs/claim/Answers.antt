@@ -4,7 +4,7 @@ use native.Mathlib.Omega.{arith}
 use Rattle.words_claims.specs.declared.Claimed.{Claimed}
 use Rattle.words_claims.proofs.Said.{verdict_said}
 use Rattle.words_claims.proofs.Verdicts.{outside_is, inside_is, tells_long, tells_outside, tells_shorter, tells_yes, tells_copies}
-use Rattle.call_claims.proofs.claim.Goals.{else-copies-ge2-via-then-copies-ge2+else-count-copies, else-copies-ge2-via-else-copies-ge2}
+use Rattle.call_claims.proofs.claim.Goals.{else-twice-via-then-twice+else-count-copies, else-twice-via-else-twice}
 use Rattle.call_claims.proofs.claim.Goals as goal
 
 pub returns-then-read-gt-MOST : goal.returns-then-read-gt-MOST
@@ -29,15 +29,15 @@ returns-then-count-copies c =
     verdict_said _ _ _ _ _
     (sym
     (tells_yes _ _ _ _ c.if-read-gt-MOST.false (inside_is _ _ _ _ (sym c.is_outside.ensures ∙ c.if-is_outside.false)) (omega (arith, c.root_at-root.ensures, c.if-root-period.false))
-    c.if-copies-ge2.true (sym c.copies_at-count.ensures ∙ c.if-count-copies.true)))
+    c.if-twice.true (sym c.copies_at-count.ensures ∙ c.if-count-copies.true)))
 
 pub returns : goal.returns
 returns c =
     verdict_said _ _ _ _ _
     (sym
     (tells_copies _ _ _ _ c.if-read-gt-MOST.false (inside_is _ _ _ _ (sym c.is_outside.ensures ∙ c.if-is_outside.false)) (omega (arith, c.root_at-root.ensures, c.if-root-period.false))
-    (λ two q. elim c.else-copies-ge2.branch [
-      | else-copies-ge2-via-then-copies-ge2+else-count-copies w ↦ w.if-count-copies.false (c.copies_at-count.ensures ∙ q)
-      | else-copies-ge2-via-else-copies-ge2 w ↦ omega (arith, two, w.if-copies-ge2.false)
+    (λ two q. elim c.else-twice.branch [
+      | else-twice-via-then-twice+else-count-copies w ↦ w.if-count-copies.false (c.copies_at-count.ensures ∙ q)
+      | else-twice-via-else-twice w ↦ omega (arith, two, w.if-twice.false)
     ])
     ∙ ap Claimed.Copies (sym c.copies_at-count.ensures)))

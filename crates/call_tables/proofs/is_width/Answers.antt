@@ -3,10 +3,10 @@ use borrow.Author.Tests.{lt-leb, le-leb}
 use Rattle.words.specs.Logs.{within}
 use Rattle.call_tables.proofs.is_width.Goals as goal
 
-pub returns-then-width-lt1 : goal.returns-then-width-lt1
+pub returns-then-low : goal.returns-then-low
 unfolding within
-returns-then-width-lt1 c = simp (lt-leb _ _ c.if-width-lt1.true)
+returns-then-low c = simp (lt-leb _ _ c.if-low.true)
 
 pub returns : goal.returns
 unfolding within
-returns c = simp (le-leb _ _ c.if-width-lt1.false)
+returns c = simp (le-leb _ _ c.if-low.false)

@@ -5,7 +5,7 @@ use native.Mathlib.Omega.{arith}
 use Rattle.slots.proofs.Laws.{some-none}
 use Rattle.step2_bits.specs.Sets.{flags}
 use Rattle.step2_bits.proofs.Places.{none_first, word_low, word_full, least_first, taken_kept, taken_lost}
-use Rattle.step2_bits.proofs.take_least.Goals.{then-left-eq0, else-left-eq0}
+use Rattle.step2_bits.proofs.take_least.Goals.{then-last, else-last}
 use Rattle.step2_bits.proofs.take_least.Goals as goal
 
 pub returns-then-words-eq0 : goal.returns-then-words-eq0
@@ -28,7 +28,7 @@ returns c =
     let S = c.requires in
     let some = c.if-words-eq0.false in
     let first = least_first _ S some in
-    elim c.if-left-eq0.branch [
-      | then-left-eq0 w ↦ let t = taken_lost _ S some w.if-left-eq0.true in rw w.set-is (t.0, first, t.1)
-      | else-left-eq0 w ↦ let t = taken_kept _ S some w.if-left-eq0.false in rw w.set-is (t.0, first, t.1)
+    elim c.if-last.branch [
+      | then-last w ↦ let t = taken_lost _ S some w.if-last.true in rw w.set-is (t.0, first, t.1)
+      | else-last w ↦ let t = taken_kept _ S some w.if-last.false in rw w.set-is (t.0, first, t.1)
     ]

@@ -23,4 +23,4 @@ returns c n m q o T =
     let size = c in
     let tail = size in
     let name = tail in
-    turn_skip T name.load-k.ensures (omega (arith, tail.load-t.ensures, c.if-t-gt0.false)) (omega (arith, size.load-r.ensures, c.if-r-gt1.false))
+    turn_skip T name.load-k.ensures (omega (arith, tail.load-t.ensures, c.if-t-gt0.false)) (omega (arith, size.load-r.ensures, c.if-several.false))
