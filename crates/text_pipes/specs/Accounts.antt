@@ -15,12 +15,13 @@ standard_input = pos 0
 abbrev pub standard_output : ℤ
 standard_output = pos 1
 
--- A read call on fd left these bytes in its buffer and answered `got`: how many of them it gave, 0 at the end of the input, less where it failed.
--- Only the proof of `ask` makes one, so nothing but a call gives it.
+-- A read call on fd left these bytes in its buffer and answered `got`: how many of them it gave, 0 at the end of the input, less where it failed, as it does
+-- where fd is not read from. Only the proof of `ask` makes one, so nothing but a call gives it.
 unfoldable pub Gave : ℤ → List ℕ → ℤ → Type 0
 Gave fd bytes got = Moved (length bytes) got
 
--- A write call on fd was handed these bytes and answered `got`: how many it took, less than 0 where it failed. Only the proof of `put` makes one.
+-- A write call on fd was handed these bytes and answered `got`: how many it took, less than 0 where it failed, as it does where fd is not
+-- written to. Only the proof of `put` makes one.
 unfoldable pub Wrote : ℤ → List ℕ → ℤ → Type 0
 Wrote fd bytes got = Moved (length bytes) got
 

@@ -1,6 +1,7 @@
 // The calls that reach outside: one read call, the write calls that take a text, and what is told of a failure on standard error. A call that
 // was interrupted, or that a pipe asks to come back later, is made again. `Gave` and `Wrote` say that a call was made and what it moved: the
-// programs' contracts rest on them, and only `ask` and `put` can give them.
+// programs' contracts rest on them, and only `ask` and `put` can give them. Standard input is read, standard output and error are written; a call on
+// any other descriptor fails.
 #![tactic(auto)]
 
 ghost use Rattle.std.specs.Prelude.{length};
