@@ -1,5 +1,6 @@
 -- What read and write calls moved, one after another: the account that the programs' contracts speak of.
-use Rattle.std.specs.Prelude.{ℕ, ◌≤◌, ◌<◌, ◌≡◌, Bool, true, false, List, [], ◌∷◌, ◌++◌, length, take, ℤ, pos, negsuc, eqb}
+use Rattle.std.specs.Prelude.{ℕ, ◌≤◌, ◌<◌, ◌≡◌, Bool, true, false, List, [], ◌∷◌, ◌++◌, length, take, ℤ, pos, negsuc, eqb, Result, Ok, Err}
+use Rattle.std.specs.declared.io.Error.{Error}
 use Rattle.io.specs.Counts.{clamp_len}
 use Rattle.text_pipes.specs.declared.Got.{Got}
 
@@ -7,6 +8,11 @@ use Rattle.text_pipes.specs.declared.Got.{Got}
 abbrev pub Moved : ℕ → ℤ → Type 0
 Moved n (pos k) = k ≤ n
 Moved n (negsuc k) = k ≡ 0
+
+-- a call's answer as a number: how many bytes it moved, or -1
+abbrev pub told : Result ℕ Error → ℤ
+told (Ok n) = pos n
+told (Err e) = negsuc 0
 
 -- the descriptors that a program is started with
 abbrev pub standard_input : ℤ

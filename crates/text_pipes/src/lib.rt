@@ -4,8 +4,8 @@
 // any other descriptor fails.
 #![tactic(auto)]
 
-ghost use Rattle.std.specs.Prelude.{length};
-ghost use Rattle.text_pipes.specs.Accounts.{Moved, standard_output, Asked, Put, Handed};
+ghost use Rattle.std.specs.Prelude.{◌≡◌, ◌^◌, ◌<◌, length, IfOk};
+ghost use Rattle.text_pipes.specs.Accounts.{Moved, told, standard_output, Asked, Put, Handed};
 
 use std::env::FillError;
 use std::io::{Error, ErrorKind, Print, Read, Stderr, Stdin, Stdout, Write};
@@ -38,16 +38,12 @@ fn again(error: i32) -> bool {
     }
 }
 
-// one read call on a descriptor, of which only standard input is read: how many bytes it gave, -1 where it failed, and then its error
-fn read(pipes: Pipes, fd: i32, input: &mut [u8], error: &mut i32) -> isize
-    ensures { Moved (length input.new) result }
+// a call's answer as a number: how many bytes it moved, -1 where it failed, and then its error
+fn told(answer: Result<usize, Error>, error: &mut i32) -> isize
+    requires { IfOk answer (λ n. n < 2 ^ 63) }
+    ensures { result ≡ told answer }
 {
-    let mut stdin = pipes.input;
-    if fd != STDIN_FILENO {
-        *error = EBADF;
-        return -1;
-    }
-    match stdin.read(input) {
+    match answer {
         Ok(n) => n as isize,
         Err(e) => {
             *error = e.raw_os_error().unwrap_or(0);
@@ -56,24 +52,30 @@ fn read(pipes: Pipes, fd: i32, input: &mut [u8], error: &mut i32) -> isize
     }
 }
 
-// one write call on a descriptor: how many bytes it took, -1 where it failed, and then its error
+// one read call on a descriptor, of which only standard input is read
+fn read(pipes: Pipes, fd: i32, input: &mut [u8], error: &mut i32) -> isize
+    ensures { Moved (length input.new) result }
+{
+    let mut stdin = pipes.input;
+    let answer = match fd {
+        STDIN_FILENO => stdin.read(input),
+        _ => Err(Error::from_raw_os_error(EBADF)),
+    };
+    told(answer, error)
+}
+
+// one write call on a descriptor, of which standard output and error are written
 fn write(pipes: Pipes, fd: i32, bytes: &[u8], error: &mut i32) -> isize
     ensures { Moved (length bytes.now) result }
 {
     let mut stdout = pipes.output;
     let mut stderr = pipes.errors;
-    let wrote = match fd {
+    let answer = match fd {
         STDOUT_FILENO => stdout.write(bytes),
         STDERR_FILENO => stderr.write(bytes),
         _ => Err(Error::from_raw_os_error(EBADF)),
     };
-    match wrote {
-        Ok(n) => n as isize,
-        Err(e) => {
-            *error = e.raw_os_error().unwrap_or(0);
-            -1
-        }
-    }
+    told(answer, error)
 }
 
 // what a read call gave: how many bytes, or that the input has ended; neither where it failed, and then the system's number for its error
