@@ -1,6 +1,8 @@
 -- The tables of the code, and the moved bits, are the definitions' at each letter and at each set: one test for each, which antt computes. Assumes nothing.
 use Prim.Native.Nat.{ℕ, ◌+◌, ◌-◌, ◌*◌, ◌/◌, ◌%◌, ◌≤◌, ◌<◌}
-use mathlib.Core.Path.{◌≡◌, refl, ap, ◌∙◌}
+use mathlib.Core.Path.{◌≡◌, refl, sym, ap, ◌∙◌}
+use mathlib.Core.Bool.{Bool, not, ◌&&◌}
+use lib.Dec.{eqb}
 use mathlib.Core.List.{List, [], ◌∷◌}
 use native.Mathlib.Omega.{arith}
 use lib.ListN.{length, get_or}
@@ -8,7 +10,8 @@ use lib.Bits.{bit_and, bit_or}
 use Rattle.bits.specs.Bits.{bit}
 use Rattle.words.specs.Range.{every, sum, gather, cells}
 use Rattle.words.proofs.Ranges.{every-same, length-cells, get_or_cells}
-use Rattle.words_primers.specs.Bases.{set_in, letter_in, set_of, letter_for, complement_of}
+use Rattle.words_primers.specs.Bases.{set_in, letter_in, set_of, letter_for, matches, complement_of}
+use Rattle.words_primers.proofs.Sets.{mask_lies}
 use Rattle.base_sets.specs.Sets.{letter_sets}
 
 -- the sets of A to Z, and of no byte before or after them
@@ -49,3 +52,8 @@ module _ (s : ℕ) (small : s < 16) where
   pub moved_is : moved s ≡ complement_of s
   unfolding every sum bit complement_of
   moved_is = every-same moved complement_of 16 0 refl s (omega arith) small
+
+-- containment by masking; the empty set matches nothing
+pub matched : (r p : ℕ) → r < 16 → p < 16 → matches r p ≡ not (eqb r 0) && eqb (bit_and r p) r
+unfolding matches
+matched r p a b = ap (λ (t : Bool). not (eqb r 0) && t) (sym (mask_lies r p a b))

@@ -14,7 +14,7 @@ const SETS: [u8; 26] = [
 
 // the letters of the sets; the empty set has none
 const LETTERS: [u8; 16] = [
-    0, 65, 67, 77, 71, 82, 83, 86, 84, 87, 89, 72, 75, 68, 66, 78,
+    0, b'A', b'C', b'M', b'G', b'R', b'S', b'V', b'T', b'W', b'Y', b'H', b'K', b'D', b'B', b'N',
 ];
 
 // the sets of A to Z as a table, for one who looks up many bytes: a constant is laid out anew at each use
@@ -29,14 +29,11 @@ pub fn set_in(sets: &[u8; 26], byte: u8) -> u8
     requires { sets.now ≡ letter_sets }
     ensures { (result ≡ set_of byte) × (result < 16) }
 {
-    if byte < 65 {
-        return 0;
+    if byte.is_ascii_uppercase() {
+        sets[(byte - b'A') as usize]
+    } else {
+        0
     }
-    if 90 < byte {
-        return 0;
-    }
-    let k = (byte - 65) as usize;
-    sets[k]
 }
 
 // the set of a byte
@@ -52,20 +49,16 @@ fn letter_for(set: u8) -> u8
     requires { set < 16 }
     ensures { result ≡ letter_for set }
 {
-    let k = set as usize;
-    LETTERS[k]
+    LETTERS[set as usize]
 }
 
 // does a read letter of one set match a primer letter of the other? The empty set, which would pass the mask, is no letter's
+#[tactic(auto, using(crate::proofs::Tables::matched))]
 pub fn matches(read: u8, primer: u8) -> bool
     requires { (read < 16) × (primer < 16) }
     ensures { result ≡ matches_in read primer }
 {
-    let none = read == 0;
-    if none {
-        return false;
-    }
-    read & primer == read
+    read != 0 && read & primer == read
 }
 
 // the complement of each base of a set
@@ -77,6 +70,7 @@ fn complement(set: u8) -> u8
 }
 
 // the letter of the complement
+#[tactic(auto, unfolding(words_primers::specs::Primers::turned))]
 pub fn turn(byte: u8) -> u8
     ensures { result ≡ turned byte }
 {

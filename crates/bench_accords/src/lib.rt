@@ -2,12 +2,12 @@
 // alone, and its code is apart from the lister's, but for the layout of a row. `crates/words_agree` has what agreeing means.
 #![tactic(auto)]
 
-ghost use Rattle.std.specs.Prelude.{◌≡◌, ◌^◌, ◌≤◌, ◌<◌, length};
+ghost use Rattle.std.specs.Prelude.{◌≡◌, ◌^◌, ◌≤◌, ◌<◌, length, IfSome};
 ghost use Rattle.words_agree.specs.Agree.{whole_periods};
 ghost use Rattle.words_agree.specs.Lists.{lines_by, agree};
 ghost use Rattle.row_matches.specs.Matching.{Passes};
 
-use row_matches::{Matched, begin, ended, pass_line};
+use row_matches::{begin, ended, pass_line};
 use row_runs::{end_of, period_of, room, start_of};
 use slots::wide;
 
@@ -23,19 +23,18 @@ fn whole_periods(p: usize, i: usize, b: usize) -> usize
 }
 
 // the lines by the run from a to b: once fewer than two periods are left, there is no more
-fn agree_run(list: &[u16], from: Matched, a: usize, b: usize, p: usize) -> Matched
-    requires { (from.at ≤ length list.now) × (b < 2 ^ 16) }
+fn agree_run(list: &[u16], from: Option<usize>, a: usize, b: usize, p: usize) -> Option<usize>
+    requires { IfSome from (λ at. at ≤ length list.now) × (b < 2 ^ 16) }
     ensures { Passes (lines_by a b p) list.now from result }
 {
     let mut m = from;
-    let mut i = a;
-    while i <= b {
+    for i in a..b + 1 {
         let e = whole_periods(p, i, b);
-        if e < 2 {
+        let none = e < 2;
+        if none {
             return m;
         }
         m = pass_line(list, m, i, p, e);
-        i += 1;
     }
     m
 }
@@ -46,12 +45,10 @@ pub fn runs_agree(list: &[u16], runs: &[u16]) -> bool
 {
     let rows = room(runs);
     let mut m = begin();
-    let mut k = 0;
-    while k < rows {
+    for k in 0..rows {
         let a = wide(start_of(runs, k));
         let b = wide(end_of(runs, k));
         m = agree_run(list, m, a, b, wide(period_of(runs, k)));
-        k += 1;
     }
     ended(list, m)
 }

@@ -30,8 +30,8 @@ module _ (t head after : List ℕ) where
       record {
         lh = omega arith;
         la = omega arith;
-        heads = record { first = λ s a b. absurd (omega arith) };
-        nexts = record { next = λ i a b. absurd (omega arith) };
+        heads = λ s a b. absurd (omega arith);
+        nexts = λ i a b. absurd (omega arith);
       }
 
   pub linked_all : length t ≤ 1000 → Linking t head after 0 → Linked t head after (length t)
@@ -41,8 +41,8 @@ module _ (t head after : List ℕ) where
       record {
         lh = omega (arith, l.lh);
         la = omega (arith, l.la);
-        heads = record { first = λ s a b. let c : s ≤ n = omega (arith, b, length-take n head) in view-at n head s a c ∙ l.first s a c };
-        nexts = record { next = λ i a b. let c : i ≤ n = omega (arith, b, length-take n after) in view-at n after i a c ∙ l.next i a c };
+        heads = λ s a b. let c : s ≤ n = omega (arith, b, length-take n head) in view-at n head s a c ∙ l.first s a c;
+        nexts = λ i a b. let c : i ≤ n = omega (arith, b, length-take n after) in view-at n after i a c ∙ l.next i a c;
       }
 
   pub linking_none : length t ≤ 1000 → Bare head after → Linking t head after (length t)

@@ -1,59 +1,77 @@
 // Where the next position of a group stands in a table of names. `link` finds it once for every name and every position, in one pass;
-// `first_of` and `next_of` then look it up. A table that the arrays do not fit (more than 1,000 names, or a name that is no position of it)
+// `Links` then looks it up. A table that the arrays do not fit (more than 1,000 names, or a name that is no position of it)
 // gets no links, and is searched: no read has such a table, but the contracts hold for every slice.
 #![tactic(auto)]
 
-ghost use Rattle.std.specs.Prelude.{◌≡◌, true, ◌≤◌, ◌<◌, length};
+ghost use Rattle.std.specs.Prelude.{◌≡◌, eqb, true, ◌≤◌, ◌<◌, length, position as place_in};
 ghost use Rattle.words.specs.Reads.{at};
 ghost use Rattle.slots.specs.Slots.{put};
-ghost use Rattle.bench_links.specs.Links.{next_in, Heads, Nexts, Bare, Linked};
+ghost use Rattle.bench_links.specs.Links.{next_in, or_none, Heads, Nexts, Bare, Linked};
 
 use slots::{load, store, wide};
 
-// the first position after i of the group named s, 0 if there is none
-fn seek(table: &[u16], s: usize, i: usize) -> usize
-    ensures { result ≡ next_in table.now s i }
+// a number of the arrays: 0 stands for none
+fn position(x: u16) -> Option<usize>
+    ensures { result ≡ or_none x }
 {
-    let mut j = i;
-    while j < table.len() {
-        if wide(table[j]) == s {
-            return j + 1;
-        }
-        j += 1;
-    }
-    0
+    if x == 0 { None } else { Some(wide(x)) }
+}
+
+// the place of the first s in a part of a table
+fn place(part: &[u16], s: usize) -> Option<usize>
+    ensures { result ≡ place_in (λ x. eqb x s) part.now }
+{
+    part.iter().position(|x| wide(*x) == s)
+}
+
+// the first position after i of the group named s
+fn seek(table: &[u16], s: usize, i: usize) -> Option<usize>
+    requires { i ≤ length table.now }
+    ensures { result ≡ or_none (next_in table.now s i) }
+{
+    let k = place(&table[i..], s)?;
+    Some(i + k + 1)
 }
 
 // is s one of 1 to n?
 fn inside(s: usize, n: usize) -> bool
     ensures { result ≡ true → (1 ≤ s) × (s ≤ n) }
 {
-    if s == 0 {
-        return false;
-    }
-    s <= n
+    (1..=n).contains(&s)
 }
 
-// the first position of the group named s, 0 if there is none
-pub fn first_of(table: &[u16], head: &[u16], s: usize) -> usize
-    requires { Heads table.now head.now }
-    ensures { result ≡ next_in table.now s 0 }
-{
-    if inside(s, head.len()) {
-        return wide(head[s - 1]);
-    }
-    seek(table, s, 0)
+// a table with its links: by name the first position of the group, by position the next one; either is 0 where there is none. A name or a position that has no
+// place there is searched for
+#[derive(Clone, Copy)]
+pub struct Links<'a> {
+    pub table: &'a [u16],
+    pub head: &'a [u16],
+    pub after: &'a [u16],
+    ghost heads: { Heads table.now head.now },
+    ghost nexts: { Nexts table.now after.now },
 }
 
-// the next position of the group of position i, 0 if there is none
-pub fn next_of(table: &[u16], after: &[u16], i: usize) -> usize
-    requires { (1 ≤ i) × (i ≤ length table.now) × Nexts table.now after.now }
-    ensures { result ≡ next_in table.now (at table.now i) i }
-{
-    if i <= after.len() {
-        return wide(after[i - 1]);
+impl Links<'_> {
+    // the first position of the group named s
+    pub fn first_of(&self, s: usize) -> Option<usize>
+        ensures { result ≡ or_none (next_in self.now.table.now s 0) }
+    {
+        if inside(s, self.head.len()) {
+            return position(self.head[s - 1]);
+        }
+        seek(self.table, s, 0)
     }
-    seek(table, wide(table[i - 1]), i)
+
+    // the next position of the group of position i
+    pub fn next_of(&self, i: usize) -> Option<usize>
+        requires { (1 ≤ i) × (i ≤ length self.now.table.now) }
+        ensures { result ≡ or_none (next_in self.now.table.now (at self.now.table.now i) i) }
+    {
+        if i <= self.after.len() {
+            return position(self.after[i - 1]);
+        }
+        seek(self.table, wide(self.table[i - 1]), i)
+    }
 }
 
 // position i, before all that are linked, becomes the first of the group named s
@@ -75,14 +93,12 @@ pub fn link(table: &[u16], head: &mut [u16; 1000], after: &mut [u16; 1000]) -> u
     if 1000 < n {
         return 0;
     }
-    let mut i = n;
-    while 0 < i {
-        let s = table[i - 1];
+    for i in (0..n).rev() {
+        let s = table[i];
         if !inside(wide(s), n) {
             return 0;
         }
-        link_one(head, after, s, i as u16);
-        i -= 1;
+        link_one(head, after, s, i as u16 + 1);
     }
     n
 }

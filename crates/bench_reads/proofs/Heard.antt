@@ -1,24 +1,26 @@
 -- What was heard of a line: on success the front of the slice is the list of its read, whole, and what is shown goes by the answer. Assumes nothing.
 use Prim.Native.Nat.{ℕ, ◌*◌, ◌^◌, ◌≤◌, ◌<◌}
-use mathlib.Core.Path.{◌≡◌, sym, ap, ◌∙◌}
+use mathlib.Core.Path.{◌≡◌, refl, sym, ap, ◌∙◌}
 use mathlib.Core.Logic.{◌≢◌}
 use mathlib.Core.List.{List, [], ◌∷◌}
 use native.Mathlib.Omega.{arith}
 use lib.ListN.{length, take}
 use lib.Seq.{length-take-le}
-use borrow.Author.Tests.{ne_eqb}
+use borrow.Author.Tests.{ne_eqb, eqb-false}
+use Rattle.std.specs.Prelude.{Result, Ok, Err}
 use Rattle.words.specs.Rows.{rows}
 use Rattle.words.specs.Reads.{most}
 use Rattle.words.specs.Lists.{line_size, lines, line_count, in_mode}
-use Rattle.words.specs.declared.Listed.{Listed}
-use Rattle.words.specs.Answers.{Answer, success, listed_says}
+use Rattle.words.specs.declared.Refusal.{Refusal}
+use Rattle.words.specs.Answers.{Answer, success, refused_says, says, counted_says}
+use Rattle.words.proofs.Said.{refused-some}
 use Rattle.words.proofs.Rows.{rows_times}
 use Rattle.words.proofs.LineLayout.{line-some}
 use Rattle.words.proofs.Lists.{lines_full}
 use Rattle.words.proofs.Afterwards.{front}
 use Rattle.call_answers.specs.declared.Answer.{Answer as Plain}
 use Rattle.call_answers.specs.Plain.{plain}
-use Rattle.call_answers.proofs.One.{listed_one}
+use Rattle.call_answers.proofs.One.{counted_one}
 use Rattle.text_answers.specs.Texts.{refused_text}
 use Rattle.text_lines.specs.Lines.{Keeps}
 use Rattle.text_lines.proofs.Keeping.{keeps_whole}
@@ -30,10 +32,19 @@ use Rattle.bench_reads.specs.Views.{read_view, view_text, viewed}
 use Rattle.bench_reads.specs.Steps.{Viewed}
 use Rattle.bench_reads.proofs.Made.{made_whole}
 
--- an answer of the list call is its number and its one value
-pub list_told : (f : Listed) {a : Plain} → a ≡ plain (listed_says f) → listed_says f ≡ record { number = a.number; values = a.value ∷ [] }
+-- an answer of the list call is its number and its one value: of a list, the number of its lines
+pub count_told : (f : Result ℕ Refusal) (n : ℕ) → f ≡ Ok n → counted_says f ≡ record { number = 0; values = n ∷ [] }
+unfolding says success
+count_told f n e = rw e refl
+
+-- .. and of a refusal, what it returns
+pub why_told : (f : Result ℕ Refusal) (why : Refusal) {a : Plain} → f ≡ Err why → a ≡ plain (refused_says why) → counted_says f ≡ record { number = a.number; values = a.value ∷ [] }
+unfolding says plain
+why_told f why e q = rw (e, q) (ap (λ (v : List ℕ). record { number = (refused_says why).number; values = v }) (counted_one (Err why)))
+
+pub why-some : (why : Refusal) {a : Plain} → a ≡ plain (refused_says why) → a.number ≢ 0
 unfolding plain
-list_told f e = rw e (ap (λ (v : List ℕ). record { number = (listed_says f).number; values = v }) (listed_one f))
+why-some why q z = eqb-false (refused_says why).number 0 (refused-some why) (sym (ap (λ (b : Plain). b.number) q) ∙ z)
 
 module _ {line : List ℕ} {len : ℕ} {list : List ℕ} {a : Answer} {made : List ℕ} (H : Hears line len list a made) {n v : ℕ}
     (told : a ≡ record { number = n; values = v ∷ [] }) where

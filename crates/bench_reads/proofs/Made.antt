@@ -13,7 +13,10 @@ use Rattle.words.specs.Rows.{rows}
 use Rattle.words.specs.Reads.{most}
 use Rattle.words.specs.Lists.{line_size, line_count, in_mode}
 use Rattle.words.specs.Moves.{move_size, log, log2, M}
-use Rattle.words.specs.Answers.{Answer, success}
+use Rattle.std.specs.Prelude.{Result, Ok}
+use Rattle.words.specs.declared.Refusal.{Refusal}
+use Rattle.words.specs.Answers.{Answer, success, says, counted_says}
+use Rattle.words.proofs.Said.{counted_ok}
 use Rattle.words.specs.Calls.{refuse, too_long, afterwards, list_afterwards, log_answer, log_leaves}
 use Rattle.words.proofs.Rows.{Full, rows_times}
 use Rattle.words.proofs.MoveLayout.{move_some}
@@ -78,9 +81,22 @@ runs_done x out few room fits =
     let r = le-ltb (rows run_size out) (rows run_size (runs x)) (omega (arith, runs_no_more x, rows_times run_size out 10000 run-some room)) in
     (rw (le-ltb most (length x) few, r), rw (le-ltb most (length x) few, r))
 
-module _ (x out : List ℕ) (few : length x ≤ most) {a : Answer} {made : List ℕ} {k : ℕ} (told : k ≡ (plain a).value) where
-  pub log_whole : move_size * M most ≤ length out → a ≡ log_answer x out → made ≡ log_leaves x out → (take (move_size * k) made ≡ log x) × (move_size * k ≤ length made)
-  log_whole room says left = let D = log-done x out few room in made_whole move_size (log x) out (log_full x) (says ∙ D.0) (left ∙ D.1) told
+-- so both calls succeed, and say how many rows they wrote
+module _ (x out : List ℕ) (few : length x ≤ most) {f : Result ℕ Refusal} where
+  pub log_made : move_size * M most ≤ length out → counted_says f ≡ log_answer x out → f ≡ Ok (rows move_size (log x))
+  log_made room says = counted_ok f _ (says ∙ (log-done x out few room).0)
 
-  pub runs_whole : length out ≡ run_size * 10000 → line_count x (in_mode x 0) ≤ 10000 → a ≡ runs_answer x out → made ≡ runs_leaves x out → (take (run_size * k) made ≡ runs x) × (run_size * k ≤ length made)
-  runs_whole room fits says left = let D = runs_done x out few room fits in made_whole run_size (runs x) out (runs_full x) (says ∙ D.0) (left ∙ D.1) told
+  pub runs_made : length out ≡ run_size * 10000 → line_count x (in_mode x 0) ≤ 10000 → counted_says f ≡ runs_answer x out → f ≡ Ok (rows run_size (runs x))
+  runs_made room fits says = counted_ok f _ (says ∙ (runs_done x out few room fits).0)
+
+-- the number that a success has is its value
+value_is : {f : Result ℕ Refusal} {k : ℕ} → f ≡ Ok k → k ≡ (plain (counted_says f)).value
+unfolding plain says success
+value_is told = rw told refl
+
+module _ (x out : List ℕ) (few : length x ≤ most) {f : Result ℕ Refusal} {made : List ℕ} {k : ℕ} (told : f ≡ Ok k) where
+  pub log_whole : move_size * M most ≤ length out → counted_says f ≡ log_answer x out → made ≡ log_leaves x out → (take (move_size * k) made ≡ log x) × (move_size * k ≤ length made)
+  log_whole room says left = let D = log-done x out few room in made_whole move_size (log x) out (log_full x) (says ∙ D.0) (left ∙ D.1) (value_is told)
+
+  pub runs_whole : length out ≡ run_size * 10000 → line_count x (in_mode x 0) ≤ 10000 → counted_says f ≡ runs_answer x out → made ≡ runs_leaves x out → (take (run_size * k) made ≡ runs x) × (run_size * k ≤ length made)
+  runs_whole room fits says left = let D = runs_done x out few room fits in made_whole run_size (runs x) out (runs_full x) (says ∙ D.0) (left ∙ D.1) (value_is told)

@@ -53,11 +53,11 @@ fn show_read(
     ensures { Collects buf.old start (read_view read.now) buf.new result }
 {
     let mut log = [0u16; 29970];
-    let found = call_answers::logged(call_logs::log(read, &mut log));
-    let moves = move_size() * found.value as usize;
+    let found = call_logs::log(read, &mut log).unwrap();
+    let moves = move_size() * found;
     let mut runs = [0u16; 30000];
-    let maximal = call_answers::runs_listed(call_runs::runs(read, &mut runs));
-    let ran = run_size() * maximal.value as usize;
+    let maximal = call_runs::runs(read, &mut runs).unwrap();
+    let ran = run_size() * maximal;
     let size = line_size() * count;
     show_lists(
         pipes,
@@ -76,9 +76,11 @@ pub fn show(pipes: Pipes, line: &[u8], len: usize, buf: &mut [u8], start: Out) -
     ensures { Viewed line.now len buf.old start buf.new result }
 {
     let mut list = [0u16; 30000];
-    let a = call_answers::listed(text_hears::hear(line, len, &mut list));
-    if a.number == 0 {
-        return show_read(pipes, &line[..len], &list, a.value as usize, buf, start);
+    match text_hears::hear(line, len, &mut list) {
+        Ok(count) => show_read(pipes, &line[..len], &list, count, buf, start),
+        Err(why) => {
+            let a = call_answers::refused(why);
+            collect_refusal(pipes, a.number as u64, a.value, buf, start)
+        }
     }
-    collect_refusal(pipes, a.number as u64, a.value, buf, start)
 }

@@ -1,6 +1,7 @@
 // One width of a read shown from its table, and the other lines of the view: each text is collected behind what was collected before, once
 // there is room for the longest one. `show_table` cuts out the width's parts of the log, of the list and of the runs, and compares the list with the groups;
-// `collect_accord` compares the list with the runs.
+// `collect_accord` compares the list with the runs. Each `collect_..` makes room and puts its text there: one function that takes the text as a closure
+// would have a contract over what that closure leaves in the buffer, longer than these bodies.
 #![tactic(auto)]
 
 ghost use Rattle.std.specs.Prelude.{◌≡◌, ◌∷◌, [], ◌^◌, ◌≤◌, ◌<◌, length};
@@ -20,21 +21,19 @@ use bench_agrees::part_from;
 use row_lines::{line_size, period_cell};
 use row_moves::{entries, move_size, width_cell};
 use row_runs::{run_period_cell, run_size};
-use text_outs::Out;
+use text_answers::put_refused;
+use text_outs::{Out, room};
 use text_pipes::Pipes;
+use text_views::{put_accord, put_head, put_verdict, put_width};
 
 // collects the first line of a read's view
 pub fn collect_head(pipes: Pipes, read: &[u8], buf: &mut [u8], start: Out) -> Out
     requires { (length read.now ≤ most) × Roomy buf.old start.used }
     ensures { Collects buf.old start (head_text read.now) buf.new result }
 {
-    let o = text_outs::room(pipes, buf, 4 * read.len() + 27, start);
-    let at = o.used;
-    let end = text_views::put_head(buf, at, read);
-    Out {
-        used: end,
-        ok: o.ok,
-    }
+    let o = room(pipes, buf, 4 * read.len() + 27, start);
+    let end = put_head(buf, o.used, read);
+    Out { used: end, ..o }
 }
 
 // collects the text of one width
@@ -54,13 +53,9 @@ fn collect_width(
 {
     let rows = row_lines::room(lines) + row_runs::room(runs);
     let need = 27 * (table.len() + entries(moves)) + 57 * rows + 64;
-    let o = text_outs::room(pipes, buf, need, start);
-    let at = o.used;
-    let end = text_views::put_width(buf, at, w, table, moves, lines, runs);
-    Out {
-        used: end,
-        ok: o.ok,
-    }
+    let o = room(pipes, buf, need, start);
+    let end = put_width(buf, o.used, w, table, moves, lines, runs);
+    Out { used: end, ..o }
 }
 
 // collects the last line but one, by the first width at which list and groups differ, 0 for none
@@ -68,13 +63,9 @@ pub fn collect_verdict(pipes: Pipes, w: usize, buf: &mut [u8], start: Out) -> Ou
     requires { Roomy buf.old start.used }
     ensures { Collects buf.old start (verdict_text w) buf.new result }
 {
-    let o = text_outs::room(pipes, buf, 64, start);
-    let at = o.used;
-    let end = text_views::put_verdict(buf, at, w);
-    Out {
-        used: end,
-        ok: o.ok,
-    }
+    let o = room(pipes, buf, 64, start);
+    let end = put_verdict(buf, o.used, w);
+    Out { used: end, ..o }
 }
 
 // collects the last line: do this list and these runs agree?
@@ -83,13 +74,9 @@ pub fn collect_accord(pipes: Pipes, list: &[u16], runs: &[u16], buf: &mut [u8], 
     ensures { Collects buf.old start (accord_text (agree list.now runs.now)) buf.new result }
 {
     let agree = runs_agree(list, runs);
-    let o = text_outs::room(pipes, buf, 64, start);
-    let at = o.used;
-    let end = text_views::put_accord(buf, at, agree);
-    Out {
-        used: end,
-        ok: o.ok,
-    }
+    let o = room(pipes, buf, 64, start);
+    let end = put_accord(buf, o.used, agree);
+    Out { used: end, ..o }
 }
 
 // collects a refusal
@@ -97,23 +84,18 @@ pub fn collect_refusal(pipes: Pipes, number: u64, value: u64, buf: &mut [u8], st
     requires { (number < 2 ^ 32) × Roomy buf.old start.used }
     ensures { Collects buf.old start (refused_text number (value ∷ [])) buf.new result }
 {
-    let o = text_outs::room(pipes, buf, 64, start);
-    let at = o.used;
-    let end = text_answers::put_refused(buf, at, number, value);
-    Out {
-        used: end,
-        ok: o.ok,
-    }
+    let o = room(pipes, buf, 64, start);
+    let end = put_refused(buf, o.used, number, value);
+    Out { used: end, ..o }
 }
 
-// the first width at which list and groups differ, after one width more; 0 while they agree
+// the first width at which list and groups differ, after one width more; 0 while they agree: tried as an Option, of whose number nothing says that it
+// fits its type, so the bound of the line's length did not close
+#[tactic(auto, unfolding(crate::specs::Places::first_differ))]
 pub fn first_differ(differ: usize, agree: bool, w: usize) -> usize
     ensures { result ≡ first_differ differ agree w }
 {
-    if differ != 0 {
-        return differ;
-    }
-    if agree { differ } else { w }
+    if differ == 0 && !agree { w } else { differ }
 }
 
 // the place reached between two widths: the moves, lines and runs passed, the first width at which list and groups differ, and what is collected

@@ -15,10 +15,6 @@ fn main(rt: HostRuntime) {
     let mut input = [0u8; 65536];
     let mut line = [0u8; 1001];
     let mut buf = [0u8; 262144];
-    let pipes = Pipes {
-        input: rt.stdin(),
-        output: rt.stdout(),
-        errors: rt.stderr(),
-    };
+    let pipes = Pipes::new(&rt);
     run(pipes, &mut input, &mut line, &mut buf);
 }

@@ -1,5 +1,5 @@
 // The widths of a read shown one after another. The groups come from the replay of the read's log alone, which goes on by one width at a time:
-// `name` holds the table of the width that is shown, and the log's entries of the width make it the next one.
+// `r.name` holds the table of the width that is shown, and the log's entries of the width make it the next one.
 #![tactic(auto)]
 
 ghost use Rattle.std.specs.Prelude.{◌≡◌, ◌+◌, length};
@@ -9,7 +9,7 @@ ghost use Rattle.bench_widths.specs.Views.{width_view, widths_of};
 ghost use Rattle.bench_widths.specs.Reaching.{Own, Reached};
 
 use bench_shows::{Place, show_table};
-use call_renames::replay_width;
+use call_renames::{empty_rooms, replay_width};
 use call_replays::first_groups;
 use text_outs::Out;
 use text_pipes::Pipes;
@@ -38,11 +38,8 @@ pub fn show_widths(
 {
     let n = read.len();
     let top = widths(n) as u16;
-    let mut name = [0u16; 1000];
-    let mut mark = [0u16; 1000];
-    let mut lead = [0u16; 1000];
-    let mut part = [0u16; 1000];
-    first_groups(&mut name, read, n as u16);
+    let mut r = empty_rooms();
+    first_groups(&mut r.name, read, n as u16);
     let mut from = 0;
     let mut p = Place {
         moved: 0,
@@ -51,13 +48,9 @@ pub fn show_widths(
         differ: 0,
         out: start,
     };
-    let mut w: u16 = 0;
-    while w < top {
-        w += 1;
-        p = show_table(pipes, &name[..n], log, list, runs, w as usize, buf, p);
-        from = replay_width(
-            &mut name, &mut mark, &mut lead, &mut part, log, n as u16, from, w,
-        );
+    for w in 1..top + 1 {
+        p = show_table(pipes, &r.name[..n], log, list, runs, w as usize, buf, p);
+        from = replay_width(&mut r, log, n as u16, from, w);
     }
     p
 }

@@ -1,5 +1,5 @@
 -- What a call answers as numbers side by side, in document 01's own numbers.
-use Rattle.std.specs.Prelude.{ℕ, length, get_or, ltb}
+use Rattle.std.specs.Prelude.{ℕ, length, get_or, ltb, Option}
 use Rattle.words.specs.Range.{bit}
 use Rattle.words.specs.Answers.{Answer as Says, entry_says}
 use Rattle.words.specs.declared.Taken.{Taken}
@@ -40,5 +40,5 @@ entry_found a =
     }
 
 -- what a lookup gives
-unfoldable pub plain_looked : Looked → Found
+unfoldable pub plain_looked : Option Looked → Found
 plain_looked a = entry_found (looked_says a)

@@ -1,26 +1,21 @@
-// The answers of the library's calls in the documents' numbers: the one place in code where a case becomes a number and its values (`marker_answers` has those of the marker calls).
-// What each case says stands in the definitions of words, specs/Answers.antt, and of words_index, words_runs, words_claims and words_primers, specs/Calls.antt; `plain` puts it side by side.
+// The answers of the library's calls in the documents' numbers: the one place in code where a case becomes a number and its values (`marker_answers` has the score's).
+// What each case says stands in the definitions of words, specs/Answers.antt, and of words_index and words_claims, specs/Calls.antt; `plain` puts it side by side.
 #![tactic(auto)]
 
 ghost use Rattle.std.specs.Prelude.{◌≡◌};
-ghost use Rattle.words.specs.Answers.{listed_says, tabled_says, logged_says, replayed_says};
+ghost use Rattle.words.specs.Answers.{counted_says, refused_says, side_number};
 ghost use Rattle.words.specs.Answers.{success as says_success, both as says_both, refusal as says_refusal};
-ghost use Rattle.words_index.specs.Calls.{indexed_says, list_indexed_says};
-ghost use Rattle.words_index.specs.declared.Looked.{Looked};
-ghost use Rattle.words_runs.specs.Calls.{runs_listed_says};
+ghost use Rattle.words_index.specs.Calls.{list_indexed_says};
 ghost use Rattle.words_claims.specs.Calls.{claimed_says};
-ghost use Rattle.words_primers.specs.Calls.{placed_says, turned_says};
 ghost use Rattle.call_answers.specs.Plain.{plain, plain_move, plain_looked};
 
-use words::{Entry, Listed, Logged, Replayed, Tabled, Taken};
-use words_claims::Claimed;
-use words_index::{Indexed, ListIndexed, Looked};
-use words_primers::{Placed, Turned};
-use words_runs::RunsListed;
+use words::{Entry, Refusal, Side, Taken};
+use words_claims::Verdict;
+use words_index::{ListIndexed, Looked};
 
 // An answer: its number, 0 for success and else the refusal's, and the values returned with it, 0 for each that it has not.
 #[repr(C)]
-#[derive(Drop)]
+#[derive(Clone, Copy, Debug, PartialEq, Eq)]
 pub struct Answer {
     pub number: u32,
     pub value: u64,
@@ -30,7 +25,7 @@ pub struct Answer {
 
 // The next entry of a log, if one was found, and the place after it.
 #[repr(C)]
-#[derive(Drop)]
+#[derive(Clone, Copy, Debug, PartialEq, Eq)]
 pub struct Move {
     pub at: usize,
     pub found: u16,
@@ -41,7 +36,7 @@ pub struct Move {
 
 // What a lookup gives: 1 and the entry's place and its three numbers, or all 0.
 #[repr(C)]
-#[derive(Drop)]
+#[derive(Clone, Copy, Debug, Default, PartialEq, Eq)]
 pub struct Found {
     pub found: u64,
     pub place: u64,
@@ -51,6 +46,7 @@ pub struct Found {
 }
 
 // a success that returns one value
+#[tactic(auto, unfolding(words::specs::Answers::success, crate::specs::Plain::plain))]
 fn success(value: usize) -> Answer
     ensures { result ≡ plain (says_success value) }
 {
@@ -62,6 +58,7 @@ fn success(value: usize) -> Answer
 }
 
 // a success that returns two
+#[tactic(auto, unfolding(words::specs::Answers::both, crate::specs::Plain::plain))]
 fn both(value: usize, more: usize) -> Answer
     ensures { result ≡ plain (says_both value more) }
 {
@@ -73,6 +70,7 @@ fn both(value: usize, more: usize) -> Answer
 }
 
 // a refusal that returns one value
+#[tactic(auto, unfolding(words::specs::Answers::refusal, crate::specs::Plain::plain))]
 pub fn refusal(number: u32, value: usize) -> Answer
     ensures { result ≡ plain (says_refusal number value) }
 {
@@ -83,123 +81,91 @@ pub fn refusal(number: u32, value: usize) -> Answer
     }
 }
 
-// what `list` answers
-pub fn listed(a: Listed) -> Answer
-    ensures { result ≡ plain (listed_says a) }
+// the number of a primer
+#[tactic(auto, unfolding(words::specs::Answers::side_number))]
+fn side_number(side: Side) -> usize
+    ensures { result ≡ side_number side }
 {
-    match a {
-        Listed::Lines(count) => success(count),
-        Listed::TooLong(long) => refusal(1, long),
-        Listed::BadMode(mode) => refusal(2, mode as usize),
-        Listed::ListFull(count) => refusal(3, count),
+    match side {
+        Side::Left => 1,
+        Side::Right => 2,
     }
 }
 
-// what `runs` answers
-pub fn runs_listed(a: RunsListed) -> Answer
-    ensures { result ≡ plain (runs_listed_says a) }
+// why a call says no
+#[tactic(auto, unfolding(words::specs::Answers::refused_says))]
+pub fn refused(why: Refusal) -> Answer
+    ensures { result ≡ plain (refused_says why) }
 {
-    match a {
-        RunsListed::Runs(count) => success(count),
-        RunsListed::TooLong(long) => refusal(1, long),
-        RunsListed::ListFull(count) => refusal(3, count),
+    match why {
+        Refusal::TooLong(long) => refusal(1, long),
+        Refusal::OutOfRange(number) => refusal(2, number as usize),
+        Refusal::ListFull(count) => refusal(3, count),
+        Refusal::NoRoom(needed) => refusal(4, needed),
+        Refusal::BadEntry(index) => refusal(5, index),
+        Refusal::OutOfPlace(line) => refusal(6, line),
+        Refusal::IndexFull(count) => refusal(7, count),
+        Refusal::BadLength(letters) => refusal(8, letters),
+        Refusal::Foreign(index) => refusal(9, index),
+        Refusal::Missing(side) => refusal(10, side_number(side)),
+        Refusal::MoreThanOnce(side) => refusal(11, side_number(side)),
+        Refusal::OutOfOrder => refusal(12, 0),
+        Refusal::NoRepeat => refusal(13, 0),
+        Refusal::Several => refusal(14, 0),
     }
 }
 
-// what `group_table` answers
-pub fn tabled(a: Tabled) -> Answer
-    ensures { result ≡ plain (tabled_says a) }
+// what a call answers that counts
+#[tactic(auto, unfolding(words::specs::Answers::says))]
+pub fn counted(a: Result<usize, Refusal>) -> Answer
+    ensures { result ≡ plain (counted_says a) }
 {
     match a {
-        Tabled::Names(count) => success(count),
-        Tabled::TooLong(long) => refusal(1, long),
-        Tabled::BadWidth(width) => refusal(2, width as usize),
-        Tabled::NoRoom(needed) => refusal(4, needed),
+        Ok(count) => success(count),
+        Err(why) => refused(why),
     }
 }
 
-// what `log` answers
-pub fn logged(a: Logged) -> Answer
-    ensures { result ≡ plain (logged_says a) }
+// what `list_index` answers
+#[tactic(auto, unfolding(words::specs::Answers::says, words_index::specs::Calls::counts_say))]
+pub fn list_indexed(a: Result<ListIndexed, Refusal>) -> Answer
+    ensures { result ≡ plain (list_indexed_says a) }
 {
     match a {
-        Logged::Moves(count) => success(count),
-        Logged::TooLong(long) => refusal(1, long),
-        Logged::NoRoom(needed) => refusal(4, needed),
-    }
-}
-
-// what `replay` answers
-pub fn replayed(a: Replayed) -> Answer
-    ensures { result ≡ plain (replayed_says a) }
-{
-    match a {
-        Replayed::Names(count) => success(count),
-        Replayed::TooLong(long) => refusal(1, long),
-        Replayed::BadWidth(width) => refusal(2, width as usize),
-        Replayed::NoRoom(needed) => refusal(4, needed),
-        Replayed::BadEntry(index) => refusal(5, index),
+        Ok(made) => both(made.lines, made.entries),
+        Err(why) => refused(why),
     }
 }
 
 // what `claim` answers
-pub fn claimed(a: Claimed) -> Answer
+#[tactic(auto, unfolding(words::specs::Answers::says, words_claims::specs::Calls::verdict_says))]
+pub fn claimed(a: Result<Verdict, Refusal>) -> Answer
     ensures { result ≡ plain (claimed_says a) }
 {
     match a {
-        Claimed::Yes => success(1),
-        Claimed::Copies(count) => both(2, count),
-        Claimed::Shorter(root) => both(3, root),
-        Claimed::Outside => success(4),
-        Claimed::TooLong(long) => refusal(1, long),
-    }
-}
-
-// what `find_primer` answers
-pub fn placed(a: Placed) -> Answer
-    ensures { result ≡ plain (placed_says a) }
-{
-    match a {
-        Placed::Places(count) => success(count),
-        Placed::TooLong(long) => refusal(1, long),
-        Placed::BadLength(letters) => refusal(8, letters),
-        Placed::Foreign(index) => refusal(9, index),
-        Placed::ListFull(count) => refusal(3, count),
-    }
-}
-
-// what `reverse_complement` answers
-pub fn turned(a: Turned) -> Answer
-    ensures { result ≡ plain (turned_says a) }
-{
-    match a {
-        Turned::Letters(count) => success(count),
-        Turned::BadLength(letters) => refusal(8, letters),
-        Turned::Foreign(index) => refusal(9, index),
-        Turned::NoRoom(needed) => refusal(4, needed),
+        Ok(Verdict::Yes) => success(1),
+        Ok(Verdict::Copies(count)) => both(2, count),
+        Ok(Verdict::Shorter(root)) => both(3, root),
+        Ok(Verdict::Outside) => success(4),
+        Err(why) => refused(why),
     }
 }
 
 // what the log reader gives
+#[tactic(auto, unfolding(words::specs::Answers::entry_says, crate::specs::Plain::plain_move, crate::specs::Plain::entry_move))]
 pub fn taken(t: Taken) -> Move
     ensures { result ≡ plain_move t }
 {
-    let at = t.at;
-    let e = t.entry;
-    match e {
-        Entry::Move {
-            width,
-            name,
-            position,
-        } => Move {
-            at,
+    match t.entry {
+        Some(e) => Move {
+            at: t.at,
             found: 1,
-            width,
-            name,
-            position,
+            width: e.width,
+            name: e.name,
+            position: e.position,
         },
-        Entry::Ended => Move {
-            at,
+        None => Move {
+            at: t.at,
             found: 0,
             width: 0,
             name: 0,
@@ -208,60 +174,19 @@ pub fn taken(t: Taken) -> Move
     }
 }
 
-// what `index` answers
-pub fn indexed(a: Indexed) -> Answer
-    ensures { result ≡ plain (indexed_says a) }
-{
-    match a {
-        Indexed::Entries(count) => success(count),
-        Indexed::OutOfPlace(line) => refusal(6, line),
-        Indexed::IndexFull(count) => refusal(7, count),
-    }
-}
-
-// what `list_index` answers
-pub fn list_indexed(a: ListIndexed) -> Answer
-    ensures { result ≡ plain (list_indexed_says a) }
-{
-    match a {
-        ListIndexed::Lines { lines, entries } => both(lines, entries),
-        ListIndexed::TooLong(long) => refusal(1, long),
-        ListIndexed::BadMode(mode) => refusal(2, mode as usize),
-        ListIndexed::ListFull(count) => refusal(3, count),
-        ListIndexed::IndexFull(count) => refusal(7, count),
-    }
-}
-
-// no entry
-fn nothing() -> Found
-    ensures { result ≡ plain_looked Looked.Nothing }
-{
-    Found {
-        found: 0,
-        place: 0,
-        first: 0,
-        lines: 0,
-        largest: 0,
-    }
-}
-
 // what `lookup` gives
-pub fn looked(a: Looked) -> Found
+#[tactic(auto, unfolding(words_index::specs::Calls::looked_says, crate::specs::Plain::plain_looked, crate::specs::Plain::entry_found))]
+pub fn looked(a: Option<Looked>) -> Found
     ensures { result ≡ plain_looked a }
 {
     match a {
-        Looked::Entry {
-            place,
-            first,
-            lines,
-            largest,
-        } => Found {
+        Some(e) => Found {
             found: 1,
-            place: place as u64,
-            first,
-            lines,
-            largest,
+            place: e.place as u64,
+            first: e.first,
+            lines: e.lines,
+            largest: e.largest,
         },
-        Looked::Nothing => nothing(),
+        None => Found::default(),
     }
 }

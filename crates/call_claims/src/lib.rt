@@ -10,8 +10,9 @@ ghost use Rattle.words_claims.specs.Calls.{claimed_says, claim_answer, motif_len
 ghost use Rattle.call_claims.specs.Parts.{motif_part};
 
 use call_copies::{copies_at, root_at};
-use read_edges::MOST;
-use words_claims::Claimed;
+use read_edges::check_length;
+use words::Refusal;
+use words_claims::Verdict;
 
 // A part of a read: where it starts, counted from 0, and how many bytes it has.
 #[repr(C)]
@@ -34,25 +35,23 @@ fn is_outside(read: &[u8], start: u32, period: u32, copies: u32) -> bool
 }
 
 // the claim check
-pub fn claim(read: &[u8], start: u32, period: u32, copies: u32) -> Claimed
+pub fn claim(read: &[u8], start: u32, period: u32, copies: u32) -> Result<Verdict, Refusal>
     ensures { claimed_says result ≡ claim_answer read.now start period copies }
 {
-    if MOST < read.len() {
-        return Claimed::TooLong(read.len());
-    }
+    check_length(read)?;
     if is_outside(read, start, period, copies) {
-        return Claimed::Outside;
+        return Ok(Verdict::Outside);
     }
     let root = root_at(read, start, period);
     if root < period as usize {
-        return Claimed::Shorter(root);
+        return Ok(Verdict::Shorter(root));
     }
     let count = copies_at(read, start, period);
     let twice = 2 <= copies;
     if twice && count == copies as usize {
-        return Claimed::Yes;
+        return Ok(Verdict::Yes);
     }
-    Claimed::Copies(count)
+    Ok(Verdict::Copies(count))
 }
 
 // how many bytes from the claimed start on are handed back: the motif of a yes, the root that is named, or none
@@ -60,11 +59,11 @@ fn motif_length(read: &[u8], start: u32, period: u32, copies: u32) -> usize
     ensures { result ≡ motif_length read.now start period copies }
 {
     match claim(read, start, period, copies) {
-        Claimed::Yes => period as usize,
-        Claimed::Copies(_) => 0,
-        Claimed::Shorter(root) => root,
-        Claimed::Outside => 0,
-        Claimed::TooLong(_) => 0,
+        Ok(Verdict::Yes) => period as usize,
+        Ok(Verdict::Shorter(root)) => root,
+        Ok(Verdict::Copies(_)) => 0,
+        Ok(Verdict::Outside) => 0,
+        Err(_) => 0,
     }
 }
 

@@ -15,14 +15,7 @@ use read_letters::same_base;
 fn byte_at(read: &[u8], i: usize) -> u8
     ensures { result ≡ at read.now i }
 {
-    let mut k = i;
-    if 0 < i {
-        k = i - 1;
-    }
-    if k < read.len() {
-        return read[k];
-    }
-    0
+    read.get(i.saturating_sub(1)).copied().unwrap_or(0)
 }
 
 // are the p bytes from position i those p further? Once the first have left the read, so have the others, and all are 0
@@ -31,15 +24,13 @@ fn stand_again(read: &[u8], i: usize, p: usize) -> bool
     ensures { result ≡ alike read.now p i (i + p) }
 {
     let n = read.len();
-    let mut k = 0;
-    while k < p {
+    for k in 0..p {
         if n < i + k {
             return true;
         }
         if !same_base(byte_at(read, i + k), byte_at(read, i + p + k)) {
             return false;
         }
-        k += 1;
     }
     true
 }
@@ -57,14 +48,12 @@ fn agree(read: &[u8], i: usize, w: usize, d: usize) -> usize
     if !same_base(byte_at(read, i), byte_at(read, other)) {
         return 0;
     }
-    let mut k = 1;
-    while k < w {
+    for k in 1..w {
         if !same_base(read[i + k - 1], read[other + k - 1]) {
             return k;
         }
-        k += 1;
     }
-    k
+    w
 }
 
 // how often the motif of a start and a period stands in a row: once, and once more for each whole period of bytes that are those a
@@ -82,10 +71,7 @@ pub fn copies_at(read: &[u8], start: u32, period: u32) -> usize
         return n;
     }
     let e = agree(read, i, n + 1 - i - p, p) / p + 1;
-    if n < e {
-        return n;
-    }
-    e
+    e.min(n)
 }
 
 // how many bases of the motif of p bytes from position i, which lies in the read, are those d further in it, up to the first that is not; none where p
@@ -116,15 +102,13 @@ pub fn root_at(read: &[u8], start: u32, period: u32) -> usize
     }
     let half = p / 2;
     let mut d = 1;
+    // it stays a `while`: how far d jumps is known only in its turn, which an iterator makes no plainer
     while d <= half {
         let m = agree_inside(read, i, p, d);
         if m == p - d {
             return d;
         }
-        if d < m {
-            d = m;
-        }
-        d += 1;
+        d = d.max(m) + 1;
     }
     p
 }
@@ -133,10 +117,5 @@ pub fn root_at(read: &[u8], start: u32, period: u32) -> usize
 pub fn is_leading(read: &[u8], start: u32, period: u32) -> bool
     ensures { result ≡ leads read.now start period }
 {
-    if start <= period {
-        return true;
-    }
-    let before = (start - period) as usize;
-    let p = period as usize;
-    !stand_again(read, before, p)
+    start <= period || !stand_again(read, (start - period) as usize, period as usize)
 }

@@ -1,4 +1,5 @@
 pub mod Order
+pub mod Tuples
 pub mod Judging
 pub mod Orderly
 pub mod Formed

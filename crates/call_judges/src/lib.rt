@@ -6,34 +6,21 @@
 ghost use Rattle.std.specs.Prelude.{◌≡◌, true, ◌+◌, ◌≤◌, ◌<◌};
 ghost use Rattle.words.specs.Rows.{rows};
 ghost use Rattle.words.specs.Moves.{top_of, move_size};
-ghost use Rattle.words.specs.Logs.{within, before, good, first_bad, well_formed};
+ghost use Rattle.words.specs.Logs.{before, good, first_bad, well_formed};
 ghost use Rattle.call_judges.specs.Judge.{in_range, follows, Seen};
 
 use read_edges::top_of;
 use row_moves::{entries, move_size, name_of, place_of, width_of};
 use slots::{load, store};
 
-fn between(a: u16, b: u16, v: u16) -> bool
-    ensures { result ≡ within a b v }
-{
-    if v < a {
-        return false;
-    }
-    v <= b
-}
-
 // are the width, the name and the position of entry k what they may be?
 fn in_range(log: &[u16], k: usize, n: u16, top: u16) -> bool
     requires { (k < rows move_size log.now) × (top ≡ top_of n) }
     ensures { result ≡ in_range n log.now k }
 {
-    if !between(1, top - 1, width_of(log, k)) {
-        return false;
-    }
-    if !between(1, n, name_of(log, k)) {
-        return false;
-    }
-    between(1, n - 1, place_of(log, k))
+    (1..top).contains(&width_of(log, k))
+        && (1..=n).contains(&name_of(log, k))
+        && (1..n).contains(&place_of(log, k))
 }
 
 // does entry k come strictly after the one before?
@@ -41,27 +28,15 @@ fn comes_after(log: &[u16], k: usize) -> bool
     requires { k < rows move_size log.now }
     ensures { result ≡ follows log.now k }
 {
-    if k == 0 {
-        return true;
-    }
-    ordered(log, k - 1, k)
+    k == 0 || ordered(log, k - 1, k)
 }
 
 fn ordered(log: &[u16], h: usize, k: usize) -> bool
     requires { (h < rows move_size log.now) × (k < rows move_size log.now) }
     ensures { result ≡ before log.now h k }
 {
-    let v = width_of(log, h);
-    let w = width_of(log, k);
-    if v != w {
-        return v < w;
-    }
-    let r = name_of(log, h);
-    let s = name_of(log, k);
-    if r != s {
-        return r < s;
-    }
-    place_of(log, h) < place_of(log, k)
+    (width_of(log, h), name_of(log, h), place_of(log, h))
+        < (width_of(log, k), name_of(log, k), place_of(log, k))
 }
 
 // is entry k good, where all before it are? If so, its position is seen to have moved at its width
@@ -69,10 +44,7 @@ fn judge(seen: &mut [u16; 1000], log: &[u16], k: usize, n: u16, top: u16) -> boo
     requires { (k < rows move_size log.now) × (n ≤ 1000) × (top ≡ top_of n) × Seen n log.now k seen.old }
     ensures { (result ≡ good n log.now k) × (result ≡ true → Seen n log.now (k + 1) seen.new) }
 {
-    if !in_range(log, k, n, top) {
-        return false;
-    }
-    if !comes_after(log, k) {
+    if !in_range(log, k, n, top) || !comes_after(log, k) {
         return false;
     }
     let w = width_of(log, k);
@@ -92,14 +64,12 @@ pub fn first_bad(log: &[u16], n: u16) -> usize
     let mut seen = [0u16; 1000];
     let top = top_of(n);
     let whole = entries(log);
-    let mut k: usize = 0;
-    while k < whole {
+    for k in 0..whole {
         if !judge(&mut seen, log, k, n, top) {
             return k;
         }
-        k += 1;
     }
-    k
+    whole
 }
 
 // is the log well formed, where k is the index of its first bad entry? It is if the entries before that are all of it; the contract speaks of n

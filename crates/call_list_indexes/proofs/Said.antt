@@ -1,23 +1,24 @@
--- What `list_index` answers and leaves in both slices: each answer says what document 02 says, and no two answers say the same. Assumes nothing.
+-- What `list_index` answers and leaves in both slices: each answer says what document 02 says. Assumes nothing.
 use Prim.Native.Nat.{ℕ, ◌*◌, ◌≤◌, ◌<◌}
-use mathlib.Core.Path.{◌≡◌, refl, sym, ap, ◌∙◌}
-use mathlib.Core.Bool.{true, cond}
+use mathlib.Core.Path.{◌≡◌, sym, ap, ◌∙◌}
+use mathlib.Core.Bool.{true}
 use mathlib.Core.List.{List}
 use native.Mathlib.Omega.{arith}
-use lib.ListN.{length, get_or, take, drop, replicate}
+use lib.ListN.{length, take, drop, replicate}
 use lib.Seq.{take_at}
-use lib.Dec.{eqb}
 use borrow.Author.Tests.{lt-ltb, le-ltb, le-leb, lt-leb}
 use Rattle.words.specs.Reads.{most}
 use Rattle.words.specs.Rows.{rows}
 use Rattle.words.specs.Lists.{line_size, lines, line_count, in_mode}
 use Rattle.words.specs.Moves.{top, top_of}
 use Rattle.words.specs.Logs.{within}
-use Rattle.words.specs.Answers.{Answer, both, refusal}
+use Rattle.std.specs.Prelude.{Result, Ok, Err}
+use Rattle.words.specs.Answers.{both, refusal, refused_says, says}
+use Rattle.words.specs.declared.Refusal.{Refusal}
 use Rattle.words.specs.Calls.{refuse, too_long, afterwards, list_afterwards}
 use Rattle.words.proofs.LineLayout.{line-some}
 use Rattle.words_index.specs.Index.{in_order, entry_size, index, entry_count}
-use Rattle.words_index.specs.Calls.{list_index_answer, list_index_leaves, list_index_beside, list_indexed_says}
+use Rattle.words_index.specs.Calls.{list_index_answer, list_index_leaves, list_index_beside, counts_say, list_indexed_says}
 use Rattle.words_index.specs.declared.ListIndexed.{ListIndexed}
 use Rattle.words_index.proofs.OfList.{lines_in_order, entries_top}
 use Rattle.row_cells.specs.Listing.{Listing}
@@ -26,18 +27,18 @@ use Rattle.row_cells.proofs.Listed.{listing_rows, listing_room}
 use Rattle.call_blocks.proofs.Indexing.{indexing_counted}
 
 -- the contract of `list_index`: what it answers, and what it leaves in the slice of the list and in that of the index
-abbrev pub Says : List ℕ → ℕ → List ℕ → List ℕ → ListIndexed → List ℕ → List ℕ → Type 0
+abbrev pub Says : List ℕ → ℕ → List ℕ → List ℕ → Result ListIndexed Refusal → List ℕ → List ℕ → Type 0
 Says x mode out s a out' s' =
     (list_indexed_says a ≡ list_index_answer x mode out s) × (out' ≡ list_index_leaves x mode out s) × (s' ≡ list_index_beside x mode out s)
 
 module _ (x : List ℕ) (mode : ℕ) (out s : List ℕ) where
-  pub long_said : most < length x → Says x mode out s (ListIndexed.TooLong (length x)) out s
-  unfolding list_indexed_says list_index_answer list_index_leaves list_index_beside list_afterwards afterwards refuse too_long refusal
+  pub long_said : most < length x → Says x mode out s (Err (Refusal.TooLong (length x))) out s
+  unfolding says refused_says counts_say list_index_answer list_index_leaves list_index_beside list_afterwards afterwards refuse too_long refusal
   long_said l = let t = lt-ltb most (length x) l in (rw t, rw t, rw t)
 
   module _ (few : length x ≤ most) where
-    pub mode_said : 1 < mode → Says x mode out s (ListIndexed.BadMode mode) out s
-    unfolding list_indexed_says list_index_answer list_index_leaves list_index_beside list_afterwards afterwards refuse too_long refusal within
+    pub mode_said : 1 < mode → Says x mode out s (Err (Refusal.OutOfRange mode)) out s
+    unfolding says refused_says counts_say list_index_answer list_index_leaves list_index_beside list_afterwards afterwards refuse too_long refusal within
     mode_said l =
         let t = le-ltb most (length x) few in
         let u = le-leb 0 mode (omega arith) in
@@ -51,8 +52,8 @@ module _ (x : List ℕ) (mode : ℕ) (out s : List ℕ) where
       abbrev count : ℕ
       count = line_count x (in_mode x mode)
 
-      pub full_said : (c : ℕ) → c ≡ count → rows line_size out < c → (n : ℕ) → n ≡ length out → Says x mode out s (ListIndexed.ListFull c) (replicate n 0) s
-      unfolding list_indexed_says list_index_answer list_index_leaves list_index_beside list_afterwards afterwards refuse too_long refusal within
+      pub full_said : (c : ℕ) → c ≡ count → rows line_size out < c → (n : ℕ) → n ≡ length out → Says x mode out s (Err (Refusal.ListFull c)) (replicate n 0) s
+      unfolding says refused_says counts_say list_index_answer list_index_leaves list_index_beside list_afterwards afterwards refuse too_long refusal within
       full_said c e l n q =
           let t = le-ltb most (length x) few in
           let u = le-leb 0 mode (omega arith) in
@@ -60,8 +61,8 @@ module _ (x : List ℕ) (mode : ℕ) (out s : List ℕ) where
           let w = lt-ltb (rows line_size out) count (omega (arith, e, l)) in
           (rw (t, u, v, w, e), rw (t, u, v, w, q), rw (t, u, v, w))
 
-      pub index_full_said : (e : ℕ) → count ≤ rows line_size out → e ≡ entry_count made → rows entry_size s < e → Says x mode out s (ListIndexed.IndexFull e) out s
-      unfolding list_indexed_says list_index_answer list_index_leaves list_index_beside list_afterwards afterwards refuse too_long refusal within
+      pub index_full_said : (e : ℕ) → count ≤ rows line_size out → e ≡ entry_count made → rows entry_size s < e → Says x mode out s (Err (Refusal.IndexFull e)) out s
+      unfolding says refused_says counts_say list_index_answer list_index_leaves list_index_beside list_afterwards afterwards refuse too_long refusal within
       index_full_said e l q b =
           let t = le-ltb most (length x) few in
           let u = le-leb 0 mode (omega arith) in
@@ -93,8 +94,8 @@ module _ (x : List ℕ) (mode : ℕ) (out s : List ℕ) where
           front_in_order = rw front_list (lines_in_order x (in_mode x mode))
 
           pub both_said : entry_count made ≤ rows entry_size s → (e : ℕ) (s' : List ℕ) → Listing entry_size s (index (take (line_size * c) out')) e s' →
-              Says x mode out s (ListIndexed.Lines c e) out' s'
-          unfolding list_indexed_says list_index_answer list_index_leaves list_index_beside list_afterwards afterwards refuse too_long both within
+              Says x mode out s (Ok (record { lines = c; entries = e })) out' s'
+          unfolding says refused_says counts_say list_index_answer list_index_leaves list_index_beside list_afterwards afterwards refuse too_long both within
           both_said b e s' M =
               let I : Listing entry_size s (index made) e s' = rw front_list at M in
               let q : entry_count made ≡ e = indexing_counted made s s' e I in
@@ -112,23 +113,3 @@ module _ (x : List ℕ) (mode : ℕ) (out s : List ℕ) where
 pub room_enough : (x : List ℕ) (mode : ℕ) (s : List ℕ) (t : ℕ) → t ≡ top_of (length x) → t ≤ rows entry_size s → entry_count (lines x (in_mode x mode)) ≤ rows entry_size s
 unfolding top
 room_enough x mode s t e h = omega (arith, e, h, entries_top x (in_mode x mode))
-
--- an answer read back
-answered : Answer → ListIndexed
-answered a =
-    let v = get_or a.values 0 0 in
-    cond (eqb a.number 0) (ListIndexed.Lines v (get_or a.values 1 0))
-    (cond (eqb a.number 1) (ListIndexed.TooLong v)
-    (cond (eqb a.number 2) (ListIndexed.BadMode v) (cond (eqb a.number 3) (ListIndexed.ListFull v) (ListIndexed.IndexFull v))))
-
-said_answered : (a : ListIndexed) → answered (list_indexed_says a) ≡ a
-unfolding answered list_indexed_says both refusal
-said_answered (ListIndexed.Lines c e) = refl
-said_answered (ListIndexed.TooLong n) = refl
-said_answered (ListIndexed.BadMode m) = refl
-said_answered (ListIndexed.ListFull c) = refl
-said_answered (ListIndexed.IndexFull c) = refl
-
--- no two answers say the same
-pub said_once : (a b : ListIndexed) → list_indexed_says a ≡ list_indexed_says b → a ≡ b
-said_once a b s = sym (said_answered a) ∙ ap answered s ∙ said_answered b

@@ -2,8 +2,8 @@
 -- afterwards, in e and f. Assumes nothing.
 use mathlib.Core.Path.{◌≡◌, sym, ◌∙◌}
 use Rattle.call_list_indexes.proofs.list_index.Reads as list_index
-use Rattle.call_list_indexes.proofs.Said.{said_once}
+use Rattle.words_index.proofs.Said.{list_indexed_once}
 
 pub list_index_settled : (κs : _) (a : _) (x y : _) (e f : _) → list_index.Learnt κs a x e → list_index.Learnt κs a y f →
     (x ≡ y) × (e.1.1.0.now ≡ f.1.1.0.now) × (e.1.1.1.0.now ≡ f.1.1.1.0.now)
-list_index_settled κs a x y e f p q = (said_once x y (p.0 ∙ sym q.0), p.1 ∙ sym q.1, p.2 ∙ sym q.2)
+list_index_settled κs a x y e f p q = (list_indexed_once x y (p.0 ∙ sym q.0), p.1 ∙ sym q.1, p.2 ∙ sym q.2)

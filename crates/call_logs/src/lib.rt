@@ -6,17 +6,18 @@
 
 ghost use Rattle.std.specs.Prelude.{◌≡◌, ◌*◌, ◌≤◌, length};
 ghost use Rattle.words.specs.Moves.{move_size, M};
-ghost use Rattle.words.specs.Answers.{logged_says};
+ghost use Rattle.words.specs.Answers.{counted_says};
 ghost use Rattle.words.specs.Calls.{log_answer, log_leaves};
 ghost use Rattle.call_logs.specs.Written.{Written};
 
 use call_moves::{room, write_moves};
-use read_edges::MOST;
+use read_edges::check_length;
 use slots::wide;
+use step2_bits::Places;
 use step3_lists::pass;
 use step5_queue::push_all;
 use steps::{begin, move_on};
-use words::Logged;
+use words::Refusal;
 
 // the log of a read; returns the number of moves. After a width without moves no width has one
 fn write_log(read: &[u8], out: &mut [u16]) -> usize
@@ -25,14 +26,12 @@ fn write_log(read: &[u8], out: &mut [u16]) -> usize
 {
     let n = read.len() as u16;
     let mut a = [[0u16; 1000]; 12];
-    let mut small = [0u64; 17];
+    let mut small = Places::none();
     // the starts of the widths, which no log asks for
-    let mut found = [0u64; 17];
+    let mut found = Places::none();
     begin(&mut a, &mut small, read, n);
-    let end = n / 2;
-    let mut w: u16 = 1;
     let mut k: usize = 0;
-    while w < end {
+    for w in 1..n / 2 {
         pass(&mut found, &mut a, w);
         let m = push_all(&mut a, &mut small, n);
         if m == 0 {
@@ -41,22 +40,18 @@ fn write_log(read: &[u8], out: &mut [u16]) -> usize
         write_moves(out, k, &a, w, m);
         move_on(&mut a, &mut small, n, w, m);
         k += wide(m);
-        w += 1;
     }
     k
 }
 
 // The log of a read, to the front of `out`.
-pub fn log(read: &[u8], out: &mut [u16]) -> Logged
-    ensures { (logged_says result ≡ log_answer read.now out.old) × (out.new ≡ log_leaves read.now out.old) }
+pub fn log(read: &[u8], out: &mut [u16]) -> Result<usize, Refusal>
+    ensures { (counted_says result ≡ log_answer read.now out.old) × (out.new ≡ log_leaves read.now out.old) }
 {
-    let long = read.len();
-    if MOST < long {
-        return Logged::TooLong(long);
-    }
-    let needed = room(long as u16);
+    check_length(read)?;
+    let needed = room(read.len() as u16);
     if out.len() < needed {
-        return Logged::NoRoom(needed);
+        return Err(Refusal::NoRoom(needed));
     }
-    Logged::Moves(write_log(read, out))
+    Ok(write_log(read, out))
 }

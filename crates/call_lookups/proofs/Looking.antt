@@ -5,11 +5,11 @@ use mathlib.Core.List.{List}
 use native.Mathlib.Omega.{arith}
 use lib.Dec.{eqb}
 use borrow.Author.Tests.{eq-eqb, lt-ltb, le-ltb}
+use Rattle.std.specs.Prelude.{Some, None}
 use Rattle.words.specs.Rows.{rows, cell}
 use Rattle.words.proofs.Searches.{Missed, first_hit, first_ended}
 use Rattle.words_index.specs.Index.{entry_size, first_entry}
 use Rattle.words_index.specs.Calls.{lookup_gives}
-use Rattle.words_index.specs.declared.Looked.{Looked}
 use Rattle.words_index.proofs.EntryLayout.{entry_inside}
 
 module _ (s : List ℕ) (p k : ℕ) (m : Missed (λ h. eqb (cell entry_size s h 0) p) 0 k) where
@@ -26,10 +26,10 @@ pub cell_there : (j : ℕ) → j ≤ 3 → j < entry_size
 cell_there j h = omega (arith, h, entry_inside)
 
 module _ (s : List ℕ) (p k : ℕ) (e : k ≡ first_entry s p) where
-  pub looked_entry : (f n c : ℕ) → k < rows entry_size s → f ≡ cell entry_size s k 1 → n ≡ cell entry_size s k 2 → c ≡ cell entry_size s k 3 → Looked.Entry k f n c ≡ lookup_gives s p
+  pub looked_entry : (f n c : ℕ) → k < rows entry_size s → f ≡ cell entry_size s k 1 → n ≡ cell entry_size s k 2 → c ≡ cell entry_size s k 3 → Some (record { place = k; first = f; lines = n; largest = c }) ≡ lookup_gives s p
   unfolding lookup_gives
   looked_entry f n c b u v w = rw (← e, lt-ltb k (rows entry_size s) b, u, v, w) refl
 
-  pub looked-none : rows entry_size s ≤ k → Looked.Nothing ≡ lookup_gives s p
+  pub looked-none : rows entry_size s ≤ k → None ≡ lookup_gives s p
   unfolding lookup_gives
   looked-none b = rw (← e, le-ltb k (rows entry_size s) b) refl

@@ -16,13 +16,7 @@ fn digits(n: u16) -> usize
     requires { (1 ≤ n) × (n ≤ 1000) }
     ensures { result ≡ 1 + log2 n }
 {
-    let mut d: usize = 0;
-    let mut p: u16 = 1;
-    while p <= n {
-        p = 2 * p;
-        d += 1;
-    }
-    d
+    1 + n.ilog2() as usize
 }
 
 // the room for the log of a read of n bytes
@@ -42,13 +36,10 @@ pub fn write_moves(out: &mut [u16], k: usize, a: &[[u16; 1000]; 12], w: u16, m: 
     ensures { out.new ≡ stored out.old (move_size * k) (moves_to w (row a.now NAME) (row a.now QUE) m) }
 {
     let size = move_size();
-    let mut q: u16 = 0;
-    let mut at = size * k;
-    while q < m {
-        q += 1;
-        let i = load(a, QUE, q);
+    for q in 0..m {
+        let at = size * k + size * wide(q);
+        let i = load(a, QUE, q + 1);
         let s = load(a, NAME, i + 1);
         put_move(out, at, w, s, i);
-        at += size;
     }
 }

@@ -15,10 +15,7 @@ fn joins(mark: &[u16; 1000], f: u16, i: u16) -> bool
     requires { (f ≤ 1000) × (1 ≤ i) × (i ≤ 1000) }
     ensures { result ≡ joined mark.now f i }
 {
-    if 0 < f {
-        return load(mark, f) == load(mark, i);
-    }
-    false
+    0 < f && load(mark, f) == load(mark, i)
 }
 
 // position i of the old group k gets its new name; returns whether it leads a new part

@@ -1,9 +1,8 @@
--- A loop over the starts of a period: before the first start, at each one, and after the last, the rows of all places before it are written, for where
--- there is no start there is no row, and no count is asked of. Assumes nothing.
-use Prim.Native.Nat.{ℕ, ◌+◌, ◌≤◌}
+-- A loop over the starts of a period: the rows of all places up to the last one that was taken are written, for where there is no start there is no
+-- row, and no count is asked of. Assumes nothing.
+use Prim.Native.Nat.{ℕ, ◌+◌, ◌-◌, ◌≤◌}
 use mathlib.Core.Path.{◌≡◌, refl, sym, ◌∙◌}
 use mathlib.Core.Logic.{⊎_elim, ◌≢◌}
-use mathlib.Core.Bool.{Bool}
 use mathlib.Core.List.{List, []}
 use native.Mathlib.Omega.{arith}
 use lib.ListN.{length}
@@ -11,86 +10,90 @@ use lib.Dec.{eqb}
 use borrow.Author.Tests.{eqb-true, eqb-false}
 use Rattle.words.specs.Range.{gather}
 use Rattle.words.specs.Reads.{at}
-use Rattle.words.proofs.Tests.{either, lt_or_ge}
+use Rattle.words.proofs.Tests.{either}
 use Rattle.row_cells.specs.Listing.{Adds}
 use Rattle.row_cells.proofs.Adding.{adds_none, adds_next}
-use Rattle.slots.specs.Slots.{put_some}
-use Rattle.step2_bits.specs.Sets.{First, Where}
+use Rattle.slots.specs.Slots.{put}
+use Rattle.step2_bits.specs.Sets.{Empty, First, Where}
 use Rattle.bits.proofs.Digits.{one_zero}
-use Rattle.step2_bits.proofs.Emptying.{done, After, Taken, done-some, done_none, done_high, after_none, done_on, between, gather_on, taken, taken_inside}
-use Rattle.start_lines.specs.Lines.{Counted}
+use Rattle.step2_bits.proofs.Emptying.{After, after_none, taken_on, between, taken-is, gather_before, taken, gather_all}
+use Rattle.call_periods.specs.declared.Sight.{Sight}
 use Rattle.call_periods.specs.Periods.{row_size, row_in, rows_in, Kept}
-use Rattle.call_periods.proofs.Rows.{row_in_none}
+use Rattle.call_periods.proofs.Rows.{row_in_none, kept_none, kept_on}
 
--- what a loop over the starts has done when i is taken: the rows of the places before it are written, and their counts are kept
-pub record Turn (dist : List ℕ) (runs : Bool) (mode p prior : ℕ) (old : List ℕ) (i k : ℕ) (out count rest : List ℕ) : Type 0 where
+-- what a loop over the starts has done once those up to `done` are taken: the rows of these places are written, and their counts are kept
+pub record Turn (dist : List ℕ) (sight : Sight) (p prior : ℕ) (old : List ℕ) (k : ℕ) (out count rest : List ℕ) : Type 0 where
   pub all : List ℕ
   pub starts : Where dist p all
-  pub taken : Taken all i rest
+  pub done : ℕ
+  pub inside : done ≤ 1000
+  pub after : After all done rest
   pub same : length out ≡ length old
-  pub rows : Adds (row_size runs) prior k (gather (row_in dist runs mode p) (done i) 1) old out
-  pub few : k ≤ prior + done i
-  pub kept : Kept dist runs mode p (done i + 1) count
+  pub rows : Adds (row_size sight) prior k (gather (row_in dist sight p) done 1) old out
+  pub few : k ≤ prior + done
+  pub kept : Kept dist sight p (done + 1) count
 
-module _ (dist : List ℕ) (runs : Bool) (mode p prior : ℕ) (old : List ℕ) where
-  -- the next start is taken once the places from 1 to m are dealt with
-  module _ (f : List ℕ) (W : Where dist p f) (m : ℕ) (g : List ℕ) (A : After f m g) (inside : m ≤ 1000) (r : ℕ) (F : First g r) where
-    no_start : (j : ℕ) → 1 ≤ j → j ≤ 1000 → at f j ≡ 0 → at dist j ≢ p
-    no_start j a b z e = one_zero (sym (W.hit j a b e) ∙ z)
-
-    counted_next : (count : List ℕ) → Counted dist mode p (m + 1) count → Counted dist mode p (done r + 1) count
-    counted_next count C = record {
-      long = C.long;
-      held = λ j a b e w. ⊎_elim (λ l. C.held j a l e w) (λ l. absurd (no_start j a (omega (arith, b, done_high r F.high)) (between f m g A inside r F j (omega arith) (omega arith)) e)) (lt_or_ge j (m + 1));
-    }
-
-    kept_next : (count : List ℕ) → Kept dist runs mode p (m + 1) count → Kept dist runs mode p (done r + 1) count
-    kept_next count K = record { long = K.long; lines = λ e. counted_next count (K.lines e) }
-
-    turn : (k : ℕ) (out count h : List ℕ) → h ≡ put_some g r 0 → length out ≡ length old → Adds (row_size runs) prior k (gather (row_in dist runs mode p) m 1) old out → k ≤ prior + m
-        → Kept dist runs mode p (m + 1) count → Turn dist runs mode p prior old r k out count h
-    turn k out count h e same rows few K = record {
-      all = f;
-      starts = W;
-      taken = taken f m g A inside r F h e;
-      same = same;
-      rows = rw (gather_on f m g A inside r F (row_in dist runs mode p) (λ j a b z. row_in_none dist runs mode p j (no_start j a b z))) rows;
-      few = omega (arith, few, done_on f m g A inside r F);
-      kept = kept_next count K;
-    }
-
-  -- the first start
-  pub turn-first : (r : ℕ) (count f g : List ℕ) → length f ≡ 1000 → Where dist p f → First f r → length count ≡ 1000 → g ≡ put_some f r 0
-      → Turn dist runs mode p prior old r prior old count g
+module _ (dist : List ℕ) (sight : Sight) (p prior : ℕ) (old : List ℕ) where
+  -- none is taken yet
+  pub turn-first : (count f : List ℕ) → length f ≡ 1000 → Where dist p f → length count ≡ 1000 → Turn dist sight p prior old prior old count f
   unfolding gather
-  turn-first r count f g long W F c e =
-      turn f W 0 f (after_none f long) (omega arith) r F prior old count g e refl (adds_none (row_size runs) prior [] old refl) (omega arith)
-      (record { long = c; lines = λ q. record { long = c; held = λ j a b e w. absurd (omega (arith, a, b)) } })
+  turn-first count f long W c =
+      record {
+        all = f;
+        starts = W;
+        done = 0;
+        inside = omega arith;
+        after = after_none f long;
+        same = refl;
+        rows = adds_none (row_size sight) prior [] old refl;
+        few = omega arith;
+        kept = kept_none dist sight p count c;
+      }
 
-  module _ (i k : ℕ) (out count f : List ℕ) (T : Turn dist runs mode p prior old i k out count f) where
+  module _ (k : ℕ) (out count f : List ℕ) (T : Turn dist sight p prior old k out count f) where
+    no_start : (j : ℕ) → 1 ≤ j → j ≤ 1000 → at T.all j ≡ 0 → at dist j ≢ p
+    no_start j a b z e = one_zero (sym (T.starts.hit j a b e) ∙ z)
+
+    no_row : (j : ℕ) → 1 ≤ j → j ≤ 1000 → at T.all j ≡ 0 → row_in dist sight p j ≡ []
+    no_row j a b z = row_in_none dist sight p j (no_start j a b z)
+
     pub turn_few : k ≤ prior + 1000
-    turn_few = omega (arith, T.few, done_high i T.taken.high)
+    turn_few = omega (arith, T.few, T.inside)
 
-    -- what is taken is a start, and the counts before it are kept
-    pub turn_start : 1 ≤ i → at dist i ≡ p
-    turn_start h =
-        ⊎_elim
-        (λ e. eqb-true (at dist i) p e)
-        (λ e. absurd (one_zero (sym (T.taken.some h) ∙ T.starts.miss i h T.taken.high (eqb-false (at dist i) p e))))
-        (either (eqb (at dist i) p))
+    -- i is taken
+    module _ (i : ℕ) (low : 1 ≤ i) (F : First f i) where
+      pub turn_start : at dist i ≡ p
+      turn_start =
+          ⊎_elim
+          (λ e. eqb-true (at dist i) p e)
+          (λ e. absurd (one_zero (sym (taken-is T.all T.done f T.after i low F) ∙ T.starts.miss i low F.high (eqb-false (at dist i) p e))))
+          (either (eqb (at dist i) p))
 
-    pub turn-kept : 1 ≤ i → Kept dist runs mode p i count
-    turn-kept h = rw (done-some i h) at T.kept
+      pub turn-kept : Kept dist sight p i count
+      turn-kept =
+          kept_on dist sight p (T.done + 1) i count
+          (λ j a b. no_start j (omega (arith, a)) (omega (arith, b, F.high)) (between T.all T.done f T.after i low F j (omega (arith, a)) (omega (arith, b))))
+          T.kept
 
-    -- the start after i, whose row is written
-    pub turn-next : (r l : ℕ) (out' count' g : List ℕ) → 1 ≤ i → Adds (row_size runs) k l (row_in dist runs mode p i) out out' → length out' ≡ length out → l ≤ k + 1
-        → Kept dist runs mode p (i + 1) count' → First f r → g ≡ put_some f r 0 → Turn dist runs mode p prior old r l out' count' g
-    turn-next r l out' count' g h L s b C F e =
-        let q = done-some i h in
-        turn T.all T.starts (done i + 1) f T.taken.after (taken_inside _ _ _ T.taken h) r F l out' count' g e (s ∙ T.same)
-        (adds_next (row_size runs) (row_in dist runs mode p) (done i) prior k l old out out' T.rows (rw q L))
-        (omega (arith, b, T.few)) (rw q C)
+      -- and its row is written
+      pub turn-next : (l : ℕ) (out' count' g : List ℕ) → Adds (row_size sight) k l (row_in dist sight p i) out out' → length out' ≡ length out → l ≤ k + 1
+          → Kept dist sight p (i + 1) count' → g ≡ put f i 0 → Turn dist sight p prior old l out' count' g
+      turn-next l out' count' g L s b C e =
+          let q : i - 1 + 1 ≡ i = omega arith in
+          let before = gather_before T.all T.done f T.after i low F (row_in dist sight p) no_row in
+          record {
+            all = T.all;
+            starts = T.starts;
+            done = i;
+            inside = F.high;
+            after = taken T.all T.done f T.after i low F g e;
+            same = s ∙ T.same;
+            rows = rw q at (adds_next (row_size sight) (row_in dist sight p) (i - 1) prior k l old out out' (rw before T.rows) (rw q L));
+            few = omega (arith, b, T.few, taken_on T.all T.done f T.after i low F);
+            kept = C;
+          }
 
-    pub turn_last : i ≡ 0 → Adds (row_size runs) prior k (rows_in dist runs mode p) old out
+    -- there is no more
+    pub turn_last : Empty f → Adds (row_size sight) prior k (rows_in dist sight p) old out
     unfolding rows_in
-    turn_last e = rw (done_none i e) at T.rows
+    turn_last E = rw (gather_all T.all T.done f T.after T.inside E (row_in dist sight p) no_row) at T.rows

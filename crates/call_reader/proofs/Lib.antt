@@ -1,5 +1,4 @@
 pub mod Takes
 pub mod Walks
-pub mod Learnt
 pub mod Settled
 mod Held

@@ -1,16 +1,14 @@
--- An entry's mark and what leads its old group go: after the last entry no mark and no leader is left. Assumes nothing.
+-- An entry's mark and what leads its old group go: only the entries behind it have marks and leaders left. Assumes nothing.
 use Prim.Native.Nat.{ℕ, ◌+◌, ◌≤◌, ◌<◌}
 use mathlib.Core.Path.{◌≡◌, sym, ap, ◌∙◌}
-use mathlib.Core.Logic.{⊎_elim, by_cases, ◌≢◌}
+use mathlib.Core.Logic.{by_cases, ◌≢◌}
 use mathlib.Core.List.{List}
 use native.Mathlib.Decide.{ℕ_discrete}
 use native.Mathlib.Omega.{arith}
 use Rattle.words.specs.Reads.{at}
 use Rattle.words.specs.Moves.{place_of}
-use Rattle.words.proofs.Tests.{lt_or_ge}
 use Rattle.slots.specs.Slots.{put}
 use Rattle.slots.proofs.Laws.{put-length, put_same, put_other}
-use Rattle.refine.specs.Phases.{Clean}
 use Rattle.call_names.specs.Heads.{Leads}
 use Rattle.call_renames.specs.Blocks.{Hit}
 use Rattle.call_renames.specs.Split.{Left}
@@ -55,9 +53,3 @@ module _ (l : List ℕ) (q to : ℕ) (name part mark lead : List ℕ) (S : Left 
             by_cases (ℕ_discrete w.0 q)
             (λ y. absurd (ne (sym w.3 ∙ ap old y ∙ ap (λ (x : ℕ). at part (at name x)) (sym e))))
             (λ y. (w.0, omega (arith, w.1), w.2, w.3))
-
-  pub left_end : to ≤ q → Clean mark × Clean lead
-  left_end z = (
-    record { long = S.mark_long; none = λ i a b. ⊎_elim (λ p. let w = S.marks i a b p in absurd (omega (arith, w.1, w.2))) (λ p. omega arith) (lt_or_ge 0 (at mark i)) },
-    record { long = S.lead_long; none = λ k a b. ⊎_elim (λ p. let w = S.leads k a b p in absurd (omega (arith, w.1, w.2))) (λ p. omega arith) (lt_or_ge 0 (at lead k)) },
-  )

@@ -14,12 +14,12 @@ use borrow.Author.Tests.{eqb-true, eq-eqb, lt-ltb, ltb-true}
 use Rattle.words.specs.Range.{column, leader}
 use Rattle.words.specs.Reads.{at}
 use Rattle.words.specs.Groups.{Least}
-use Rattle.words.proofs.Tests.{either, clash, and_left, and_right, and_both, lt_or_ge}
+use Rattle.words.proofs.Tests.{either, clash, and_left, and_right, and_both}
 use Rattle.words.proofs.Ranges.{at-column, length-column}
 use Rattle.words.proofs.Leaders.{Equivalence, leader_low, leader_high, leader_joins, leader-least, leader-same, leader-own, leaders-least}
 use Rattle.slots.proofs.Laws.{put-length, put_same, put_other}
 use Rattle.refine.specs.Phases.{Clean}
-use Rattle.call_names.specs.Heads.{joined, head_of, lead_of, Nameable}
+use Rattle.call_names.specs.Heads.{joined, head_of, lead_of}
 use Rattle.call_renames.specs.Split.{joint, split, Torn, Head, Leading}
 use Rattle.words.proofs.Rule.{at_ext}
 
@@ -112,17 +112,6 @@ module _ (t mark : List ℕ) (L : Least t) (few : length t ≤ 1000) (done : ℕ
 
   old_high : at t i ≤ 1000
   old_high = omega (arith, L.high i low high)
-
-  pub leading_nameable : (k : ℕ) → k ≡ at t i → Nameable lead k i
-  leading_nameable k e =
-      rw e
-      (record {
-        low = low;
-        high = omega arith;
-        name_low = old_low;
-        name_high = old_high;
-        lead_high = ⊎_elim (λ p. omega (arith, (M.heads (at t i) old_low old_high p).high)) (λ p. omega arith) (lt_or_ge 0 (at lead (at t i)));
-      })
 
 module _ (t mark : List ℕ) (L : Least t) (few : length t ≤ 1000) (done done' : ℕ → Type 0) (lead : List ℕ) (M : Leading t mark done lead)
     (i : ℕ) (N : Next t mark done done' i) where

@@ -2,42 +2,24 @@
 use Prim.Native.Nat.{ℕ, ◌+◌, ◌≤◌, ◌<◌}
 use mathlib.Core.Path.{◌≡◌, sym, ap, ◌∙◌}
 use mathlib.Core.Logic.{inl, inr, ⊎_elim, by_cases, ◌≢◌}
-use mathlib.Core.Bool.{true, false}
 use mathlib.Core.List.{List}
 use native.Mathlib.Decide.{ℕ_discrete}
-use native.Mathlib.Nat.{div-le_self}
 use native.Mathlib.Omega.{arith}
-use lib.ListN.{length}
-use lib.Dec.{ltb, eqb}
-use borrow.Author.Tests.{ltb-true, eqb-true, lt-ltb, eq-eqb}
 use Rattle.words.specs.Rows.{rows}
 use Rattle.words.specs.Reads.{at}
 use Rattle.words.specs.Moves.{move_size, width_of, name_of, place_of}
 use Rattle.words.specs.Replay.{under}
-use Rattle.words.proofs.Tests.{clash, and_left, and_right, and_both, lt_or_ge}
+use Rattle.words.proofs.Tests.{lt_or_ge}
 use Rattle.slots.specs.Slots.{put}
 use Rattle.slots.proofs.Laws.{put-length, put_same, put_other}
-use Rattle.refine.specs.Phases.{Clean}
 use Rattle.call_judges.specs.Judge.{Formed}
-use Rattle.call_renames.specs.Blocks.{Splits, is_at, Marking, Marks, Block, Hit}
+use Rattle.call_renames.specs.Blocks.{Splits, Marking, Marks, Block, Hit}
 use Rattle.words.proofs.Under.{Traced, under_traced}
 use Rattle.call_judges.proofs.Orderly.{entry_ranged, entries_ordered, widths_rise, entry_once, under_entry}
 
--- so few that they can be counted
-pub rows_few : (l : List ℕ) → rows move_size l ≤ length l
-unfolding rows
-rows_few l = div-le_self (length l) move_size
-
-pub at_is : (l : List ℕ) (q v : ℕ) → is_at l q v ≡ true → (q < rows move_size l) × (width_of l q ≡ v)
-unfolding is_at
-at_is l q v e = (
-  ltb-true q (rows move_size l) (and_left (ltb q (rows move_size l)) (eqb (width_of l q) v) e),
-  eqb-true (width_of l q) v (and_right (ltb q (rows move_size l)) (eqb (width_of l q) v) e),
-)
-
-is_at_lem : (l : List ℕ) (q v : ℕ) → q < rows move_size l → width_of l q ≡ v → is_at l q v ≡ true
-unfolding is_at
-is_at_lem l q v a e = and_both (ltb q (rows move_size l)) (eqb (width_of l q) v) (lt-ltb q (rows move_size l) a) (eq-eqb (width_of l q) v e)
+-- no entry q of width v is there
+abbrev pub Ended : List ℕ → ℕ → ℕ → Type 0
+Ended l q v = q < rows move_size l → width_of l q ≢ v
 
 module _ (n : ℕ) (l : List ℕ) (F : Formed n l) where
   pub splits_start : Splits l 1 0
@@ -49,7 +31,7 @@ module _ (n : ℕ) (l : List ℕ) (F : Formed n l) where
       }
 
   -- where the entries of width v end, those of the widths to v do
-  splits_next : (v q : ℕ) → q ≤ rows move_size l → ((h : ℕ) → h < q → width_of l h ≤ v) → ((h : ℕ) → q ≤ h → h < rows move_size l → v ≤ width_of l h) → is_at l q v ≡ false → Splits l (v + 1) q
+  splits_next : (v q : ℕ) → q ≤ rows move_size l → ((h : ℕ) → h < q → width_of l h ≤ v) → ((h : ℕ) → q ≤ h → h < rows move_size l → v ≤ width_of l h) → Ended l q v → Splits l (v + 1) q
   splits_next v q a low high e =
       record {
         inside = a;
@@ -57,20 +39,11 @@ module _ (n : ℕ) (l : List ℕ) (F : Formed n l) where
         upper = λ h b c.
             let more : v ≤ width_of l q = high q (omega arith) (omega arith) in
             by_cases (ℕ_discrete (width_of l q) v)
-            (λ g. clash (is_at_lem l q v (omega arith) g) e)
+            (λ g. absurd (e (omega arith) g))
             (λ g. omega (arith, widths_rise n l F q h b c));
       }
 
   module _ (v from : ℕ) (S : Splits l v from) where
-    pub marking_start : (mark : List ℕ) → Clean mark → Marking l v from mark
-    marking_start mark C =
-        record {
-          long = C.long;
-          lower = λ h b. omega (arith, S.lower h b);
-          hit = λ h b e. absurd (omega (arith, S.lower h b));
-          miss = λ i a b free. C.none i a b;
-        }
-
     module _ (q : ℕ) (inside : q < rows move_size l) (e : width_of l q ≡ v) (mark : List ℕ) (M : Marking l v q mark) where
       pub mark_inside : (1 ≤ place_of l q) × (place_of l q ≤ 1000)
       mark_inside = let R = entry_ranged n l F q inside in (R.place_low, omega (arith, R.place_high, F.few))
@@ -91,7 +64,7 @@ module _ (n : ℕ) (l : List ℕ) (F : Formed n l) where
           other : (i : ℕ) → 1 ≤ i → i ≢ place_of l q → at (put mark (place_of l q) (name_of l q)) i ≡ at mark i
           other i a ne = put_other mark (place_of l q) (name_of l q) i mark_inside.0 a ne
 
-    pub marking_end : (q : ℕ) (mark : List ℕ) → from ≤ q → q ≤ rows move_size l → Marking l v q mark → is_at l q v ≡ false → Marks l v mark × Splits l (v + 1) q
+    pub marking_end : (q : ℕ) (mark : List ℕ) → from ≤ q → q ≤ rows move_size l → Marking l v q mark → Ended l q v → Marks l v mark × Splits l (v + 1) q
     marking_end q mark a b M e = (record { long = M.long; held = λ i c d. go i c d (under_traced v i l) }, T)
       where
         T : Splits l (v + 1) q

@@ -14,11 +14,11 @@ use Rattle.words.specs.Moves.{name_of, place_of}
 use Rattle.words.proofs.Tests.{either, lt_or_ge}
 use Rattle.slots.specs.Slots.{put, view}
 use Rattle.slots.proofs.Laws.{put-length, put_same, put_other, view-length, view-at}
-use Rattle.call_names.specs.Heads.{joined, part_of, Nameable, Renamed, Leads}
+use Rattle.call_names.specs.Heads.{joined, part_of, Renamed, Leads}
 use Rattle.call_names.proofs.Kept.{part_of_length}
 use Rattle.call_renames.specs.Blocks.{Hit, Block}
-use Rattle.call_renames.specs.Split.{joint, split, Unmarked, Stayed, Covered, Moved, Left}
-use Rattle.call_renames.proofs.Leading.{Next, leader-own-leads, leader-named, leader-inside, leaders-split, leading_same, leading_nameable, joined_head, joined-leads, alone-leads, head_leads, leading_step}
+use Rattle.call_renames.specs.Split.{joint, split, Covered, Moved, Left}
+use Rattle.call_renames.proofs.Leading.{Next, leader-own-leads, leader-named, leader-inside, leaders-split, joined_head, joined-leads, alone-leads, head_leads, leading_step}
 
 module _ (n : ℕ) (mark l : List ℕ) (from to : ℕ) (R : Block n l mark from to) where
   -- two entries have two positions
@@ -90,9 +90,6 @@ module _ (n : ℕ) (mark l : List ℕ) (from to : ℕ) (R : Block n l mark from 
             below = λ j c e d. covered_below j d;
           }
 
-      pub moved_nameable : (p : ℕ) → p ≡ i → Nameable lead (at name p) p
-      moved_nameable p e = rw e (leading_nameable t mark P.table.least few (Covered mark l from q) lead P.leads i i_low inside (at name i) old)
-
       abbrev r : ℕ → ℕ
       r = leader (joint t mark)
 
@@ -149,21 +146,6 @@ module _ (n : ℕ) (mark l : List ℕ) (from to : ℕ) (R : Block n l mark from 
         where
           part_length : length (part_of lead mark part (at t i) i) ≡ 1000
           part_length = part_of_length lead mark part (at t i) i ∙ P.part-long
-
-  pub moved_start : (t name lead part : List ℕ) → length part ≡ 1000 → Stayed n t mark n name lead → Moved n t mark l from from to name lead part
-  moved_start t name lead part long S =
-      record {
-        table = S.table;
-        name-long = S.long;
-        part-long = long;
-        made = λ i a b d. S.made i a b (⊎_elim (λ e. e) (λ w. absurd (omega (arith, w.1, w.2))) d);
-        kept = λ h a b. S.kept (place_of l h) (i_low h a b) (i_high h a b) (inl (i-marked h a b));
-        saved = λ h a b. absurd (omega arith);
-        leads = leading_same t mark (Unmarked mark n) (Covered mark l from from) lead
-            (λ i a b d. inl d.0)
-            (λ i a b w d. ⊎_elim (λ e. (e, omega (arith, S.table.size))) (λ h. absurd (omega (arith, h.1, h.2))) d)
-            S.leads;
-      }
 
   module _ (t name lead part : List ℕ) (P : Moved n t mark l from to to name lead part) where
     pub moved-split : view n name ≡ split t mark

@@ -1,26 +1,22 @@
 -- The positions that stay, in order: one whose group keeps the position that names it keeps its name, and each other is the next of those of its
 -- group that stay. Assumes nothing.
-use Prim.Native.Nat.{ℕ, ◌+◌, ◌≤◌, ◌<◌}
+use Prim.Native.Nat.{ℕ, ◌+◌, ◌-◌, ◌≤◌, ◌<◌}
 use mathlib.Core.Path.{◌≡◌, sym, ap, ◌∙◌}
-use mathlib.Core.Logic.{inl, inr, ⊎_elim, by_cases, ◌≢◌}
+use mathlib.Core.Logic.{inl, inr, ⊎_elim, by_cases}
 use mathlib.Core.List.{List}
 use native.Mathlib.Decide.{ℕ_discrete}
 use native.Mathlib.Omega.{arith}
 use lib.ListN.{length}
 use Rattle.words.specs.Range.{leader}
 use Rattle.words.specs.Reads.{at}
-use Rattle.words.specs.Moves.{place_of}
 use Rattle.words.proofs.Tests.{lt_or_ge}
 use Rattle.slots.specs.Slots.{put, view}
 use Rattle.slots.proofs.Laws.{put-length, put_same, put_other, view-length, view-at}
 use Rattle.refine.specs.Phases.{Clean}
-use Rattle.call_names.specs.Heads.{head_of, lead_of, Nameable, StayerRenamed}
+use Rattle.call_names.specs.Heads.{head_of, lead_of, StayerRenamed}
 use Rattle.call_renames.specs.Blocks.{Block}
 use Rattle.call_renames.specs.Split.{Groups, joint, Table, Unmarked, Stayed, Unnamed}
-use Rattle.call_renames.proofs.Leading.{Next, whole_leader, leading_start, leading_same, leading_nameable, head_leads, leading_step}
-
-pub unnamed_step : (name l : List ℕ) (from q : ℕ) → Unnamed name l from q → at name (place_of l q) ≢ place_of l q → Unnamed name l from (q + 1)
-unnamed_step name l from q U ne = record { other = λ h a b. by_cases (ℕ_discrete h q) (λ e. rw e ne) (λ e. U.other h a (omega arith)) }
+use Rattle.call_renames.proofs.Leading.{Next, whole_leader, leading_start, leading_same, head_leads, leading_step}
 
 pub groups-table : (n : ℕ) (name : List ℕ) → Groups n name → Table n (view n name)
 groups-table n name G = record { few = G.few; size = view-length n name (omega (arith, G.few, G.long)); least = G.least }
@@ -79,9 +75,6 @@ module _ (n : ℕ) (t mark : List ℕ) (a : ℕ) (inside : a < n) (name lead : L
 
   old : at name (a + 1) ≡ at t (a + 1)
   old = S.kept (a + 1) low (omega arith) (let l : a < a + 1 = omega arith in inr l)
-
-  pub stayed_nameable : Nameable lead (at name (a + 1)) (a + 1)
-  stayed_nameable = leading_nameable t mark S.table.least few (Unmarked mark a) lead S.leads (a + 1) low high (at name (a + 1)) old
 
   -- the position does not change its name
   stayed_on : (at mark (a + 1) ≡ 0 → at mark (at t (a + 1)) ≡ 0) → Stayed n t mark (a + 1) name lead
@@ -151,3 +144,10 @@ module _ (n : ℕ) (t mark : List ℕ) (a : ℕ) (inside : a < n) (name lead : L
       (K.name_is ∙ rw (old, stayer-leads e torn))
       (K.lead_is ∙ rw old)))
       (λ ne. let K = W.moves (omega arith) in rw (K.0, K.1) (stayed_on (λ z. absurd (ne z))))
+
+-- the turn of position i, which ends where the next begins
+pub stayed_turn : (n : ℕ) (t mark : List ℕ) (i b : ℕ) (name lead name' lead' : List ℕ) → Stayed n t mark (i - 1) name lead
+    → StayerRenamed mark i name lead name' lead' → 1 ≤ i → i ≤ n → b ≡ i → Stayed n t mark b name' lead'
+stayed_turn n t mark i b name lead name' lead' S W low high e =
+    let q : i - 1 + 1 ≡ i = omega arith in
+    rw e (rw q at (stayed_step n t mark (i - 1) (omega arith) name lead S name' lead' (rw q W)))

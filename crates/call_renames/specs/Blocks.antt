@@ -1,5 +1,5 @@
 -- The entries of one width of a log: where they stand, and the marks that they make.
-use Rattle.std.specs.Prelude.{ℕ, ◌≤◌, ◌<◌, ◌≡◌, ◌⊎◌, Bool, ◌&&◌, List, length, ltb, eqb}
+use Rattle.std.specs.Prelude.{ℕ, ◌≤◌, ◌<◌, ◌≡◌, ◌⊎◌, List, length}
 use Rattle.words.specs.Rows.{rows}
 use Rattle.words.specs.Reads.{at}
 use Rattle.words.specs.Moves.{move_size, width_of, name_of, place_of}
@@ -10,10 +10,6 @@ pub record Splits (l : List ℕ) (v k : ℕ) : Type 0 where
   pub inside : k ≤ rows move_size l
   pub lower : (h : ℕ) → h < k → width_of l h < v
   pub upper : (h : ℕ) → k ≤ h → h < rows move_size l → v ≤ width_of l h
-
--- is there an entry q, and of width v?
-unfoldable pub is_at : List ℕ → ℕ → ℕ → Bool
-is_at l q v = ltb q (rows move_size l) && eqb (width_of l q) v
 
 -- the first q entries are of widths to v, and mark holds the name under which each position moved at v by them; 0 if it did not
 pub record Marking (l : List ℕ) (v q : ℕ) (mark : List ℕ) : Type 0 where

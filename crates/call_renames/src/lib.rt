@@ -12,7 +12,7 @@ ghost use Rattle.words.specs.Replay.{after};
 ghost use Rattle.slots.specs.Slots.{put, view};
 ghost use Rattle.refine.specs.Phases.{Clean};
 ghost use Rattle.call_judges.specs.Judge.{Formed};
-ghost use Rattle.call_renames.specs.Blocks.{Splits, is_at, Marks, Places, Block};
+ghost use Rattle.call_renames.specs.Blocks.{Splits, Marks, Places, Block};
 ghost use Rattle.call_renames.specs.Split.{Groups, Rooms, Stayed, Unnamed, Moved, Left};
 
 use call_names::{clean_one, name_mover, name_stayer};
@@ -24,24 +24,12 @@ const FEW: usize = 64;
 
 // ---- the entries of one width
 
-// is there an entry q, and of width v?
-fn is_at(log: &[u16], q: usize, v: u16) -> bool
-    ensures { result ≡ is_at log.now q v }
-{
-    if q < entries(log) {
-        return width_of(log, q) == v;
-    }
-    false
-}
-
 // the position of entry q is marked with its name
 fn mark_one(mark: &mut [u16; 1000], log: &[u16], q: usize)
     requires { (q < rows move_size log.now) × (1 ≤ place_of log.now q) × (place_of log.now q ≤ 1000) }
     ensures { mark.new ≡ put mark.old (place_of log.now q) (name_of log.now q) }
 {
-    let i = place_of(log, q);
-    let s = name_of(log, q);
-    store(mark, i, s);
+    store(mark, place_of(log, q), name_of(log, q));
 }
 
 // the entries of width v, which stand together from `from` on, mark their positions; returns where they end; the contract speaks of n
@@ -49,12 +37,14 @@ fn mark_block(mark: &mut [u16; 1000], log: &[u16], n: u16, from: usize, v: u16) 
     requires { Clean mark.old × Formed n log.now × Splits log.now v from }
     ensures { Marks log.now v mark.new × Splits log.now (v + 1) result }
 {
-    let mut q = from;
-    while is_at(log, q, v) {
+    let whole = entries(log);
+    for q in from..whole {
+        if width_of(log, q) != v {
+            return q;
+        }
         mark_one(mark, log, q);
-        q += 1;
     }
-    q
+    whole
 }
 
 // ---- the names of the positions that stay
@@ -64,9 +54,7 @@ fn name_rests(name: &mut [u16; 1000], lead: &mut [u16; 1000], mark: &[u16; 1000]
     requires { Groups n name.old × Clean lead.old }
     ensures { Stayed n (view n name.old) mark.now n name.new lead.new }
 {
-    let mut i: u16 = 0;
-    while i < n {
-        i += 1;
+    for i in 1..=n {
         name_stayer(name, lead, mark, i);
     }
 }
@@ -76,13 +64,11 @@ fn loses_name(name: &[u16; 1000], log: &[u16], n: u16, from: usize, to: usize) -
     requires { (n ≤ 1000) × Places n log.now from to }
     ensures { result ≡ false → Unnamed name.now log.now from to }
 {
-    let mut q = from;
-    while q < to {
+    for q in from..to {
         let i = place_of(log, q);
         if load(name, i) == i {
             return true;
         }
-        q += 1;
     }
     false
 }
@@ -121,11 +107,8 @@ fn name_movers(
     requires { Block n log.now mark.now from to × (length part.old ≡ 1000) × ((t : List ℕ) × Stayed n t mark.now n name.old lead.old) }
     ensures { (t : List ℕ) → Stayed n t mark.now n name.old lead.old → Moved n t mark.now log.now from to to name.new lead.new part.new }
 {
-    let mut q = from;
-    while q < to {
-        let i = place_of(log, q);
-        name_mover(name, lead, part, mark, i);
-        q += 1;
+    for q in from..to {
+        name_mover(name, lead, part, mark, place_of(log, q));
     }
 }
 
@@ -144,11 +127,8 @@ fn clean_each(
     requires { Left log.now from to name.now part.now mark.old lead.old }
     ensures { Clean mark.new × Clean lead.new }
 {
-    let mut q = from;
-    while q < to {
-        let i = place_of(log, q);
-        clean_one(mark, lead, name, part, i);
-        q += 1;
+    for q in from..to {
+        clean_one(mark, lead, name, part, place_of(log, q));
     }
 }
 
@@ -173,23 +153,47 @@ fn clean(
     }
 }
 
-// the groups at width v + 1 from those at v; returns where the entries of width v end
-pub fn replay_width(
-    name: &mut [u16; 1000],
-    mark: &mut [u16; 1000],
-    lead: &mut [u16; 1000],
-    part: &mut [u16; 1000],
-    log: &[u16],
-    n: u16,
-    from: usize,
-    v: u16,
-) -> usize
-    requires { Groups n name.old × Rooms mark.old lead.old part.old × Formed n log.now × Splits log.now v from }
-    ensures { Groups n name.new × Rooms mark.new lead.new part.new × (view n name.new ≡ after (view n name.old) log.now v) × Splits log.now (v + 1) result }
+// ---- a width
+
+// What a replay works on: the names of the groups, and the rooms that a width marks and cleans. The passes above are lent single arrays: a pass that is
+// lent all of this would have to promise for each array that it leaves alone that it stays.
+#[derive(Drop)]
+pub struct Renaming {
+    pub name: [u16; 1000],
+    pub mark: [u16; 1000],
+    pub lead: [u16; 1000],
+    pub part: [u16; 1000],
+}
+
+// rooms that hold nothing
+pub fn empty_rooms() -> Renaming
+    ensures { (length result.name ≡ 1000) × Rooms result.mark result.lead result.part }
 {
-    let to = mark_block(mark, log, n, from, v);
-    name_stayers(name, lead, mark, log, n, from, to);
-    name_movers(name, lead, part, mark, log, n, from, to);
-    clean(mark, lead, name, part, log, from, to);
+    Renaming {
+        name: [0u16; 1000],
+        mark: [0u16; 1000],
+        lead: [0u16; 1000],
+        part: [0u16; 1000],
+    }
+}
+
+// the groups at width v + 1 from those at v; returns where the entries of width v end
+pub fn replay_width(r: &mut Renaming, log: &[u16], n: u16, from: usize, v: u16) -> usize
+    requires { Groups n r.old.name × Rooms r.old.mark r.old.lead r.old.part × Formed n log.now × Splits log.now v from }
+    ensures { Groups n r.new.name × Rooms r.new.mark r.new.lead r.new.part × (view n r.new.name ≡ after (view n r.old.name) log.now v) × Splits log.now (v + 1) result }
+{
+    let to = mark_block(&mut r.mark, log, n, from, v);
+    name_stayers(&mut r.name, &mut r.lead, &r.mark, log, n, from, to);
+    name_movers(
+        &mut r.name,
+        &mut r.lead,
+        &mut r.part,
+        &r.mark,
+        log,
+        n,
+        from,
+        to,
+    );
+    clean(&mut r.mark, &mut r.lead, &r.name, &r.part, log, from, to);
     to
 }

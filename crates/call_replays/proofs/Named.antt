@@ -39,7 +39,7 @@ module _ (x name seen seen' : List ℕ) (i l : ℕ) (last : Latest x i (letter x
       (λ h. last_none x i l last (omega arith) (omega arith) ∙ sym (name-own name l (i + 1) h))
       (lt_or_ge 0 l)
 
-  pub named_step : Named x (put name (i + 1) (name_after name l (i + 1))) seen' (i + 1)
+  named_step : Named x (put name (i + 1) (name_after name l (i + 1))) seen' (i + 1)
   named_step =
       let v : ℕ = name_after name l (i + 1) in
       record {
@@ -50,6 +50,13 @@ module _ (x name seen seen' : List ℕ) (i l : ℕ) (last : Latest x i (letter x
             (eq-or-lt_of_le m);
         met = kept;
       }
+
+  -- as the code names it
+  pub named_joined : 1 ≤ l → (s : ℕ) → s ≡ at name l → Named x (put name (i + 1) s) seen' (i + 1)
+  named_joined h s e = let q = e ∙ sym (name-joined name l (i + 1) h) in rw q named_step
+
+  pub named_own : l ≡ 0 → Named x (put name (i + 1) (i + 1)) seen' (i + 1)
+  named_own z = rw (name-own name l (i + 1) (omega arith)) at named_step
 
 pub named_start : (x name : List ℕ) → length name ≡ 1000 → Named x name (replicate {A = ℕ} 256 0) 0
 named_start x name long = record { long = long; made = λ j a b. absurd (omega arith); met = seen_start x }

@@ -1,19 +1,17 @@
--- What the replay answers and leaves, way by way: each refusal at its place in the order, and the table otherwise; and no two answers say the
--- same. Assumes nothing.
+-- What the replay answers and leaves, way by way: each refusal at its place in the order, and the table otherwise. Assumes nothing.
 use Prim.Native.Nat.{ℕ, ◌≤◌, ◌<◌}
-use mathlib.Core.Path.{◌≡◌, refl, sym, ap, ◌∙◌}
-use mathlib.Core.Bool.{true, false, ◌||◌, not, cond}
+use mathlib.Core.Path.{◌≡◌, refl, sym}
+use mathlib.Core.Bool.{true, false, ◌||◌, not}
 use mathlib.Core.List.{List, ◌++◌}
 use native.Mathlib.Omega.{arith}
-use lib.ListN.{length, get_or, drop}
+use lib.ListN.{length, drop}
 use lib.Dec.{eqb}
 use borrow.Author.Tests.{lt-ltb, le-ltb, eqb-false, not-false}
 use Rattle.words.specs.Moves.{top_of}
 use Rattle.words.specs.Replay.{replay}
 use Rattle.words.specs.Logs.{within, first_bad, well_formed}
-use Rattle.words.specs.Answers.{Answer, success, refusal, replayed_says}
+use Rattle.words.specs.Answers.{Answer, success, refusal}
 use Rattle.words.specs.Calls.{refuse, too_long, replay_answer, replay_leaves}
-use Rattle.words.specs.declared.Replayed.{Replayed}
 use Rattle.words.proofs.Tests.{or_fails_left, or_fails_right}
 use Rattle.words.proofs.Within.{within_is}
 use Rattle.words.proofs.Afterwards.{refused-same, success-front}
@@ -66,26 +64,3 @@ module _ (x l : List ℕ) (w : ℕ) (out : List ℕ) where
         names_said t o f =
             rw (le-ltb 1000 (length x) short, wide, le-ltb (length out) (length x) room, t)
             (refl, rw (success-front (replay x l w) out (length x), (replay-least x l w).1) f)
-
--- ---- no two answers say the same
-
--- an answer read back
-answered : Answer → Replayed
-answered a =
-    let v = get_or a.values 0 0 in
-    cond (eqb a.number 0) (Replayed.Names v)
-    (cond (eqb a.number 1) (Replayed.TooLong v)
-    (cond (eqb a.number 2) (Replayed.BadWidth v)
-    (cond (eqb a.number 4) (Replayed.NoRoom v)
-    (Replayed.BadEntry v))))
-
-said_answered : (r : Replayed) → answered (replayed_says r) ≡ r
-unfolding answered replayed_says success refusal
-said_answered (Replayed.Names n) = refl
-said_answered (Replayed.TooLong n) = refl
-said_answered (Replayed.BadWidth w) = refl
-said_answered (Replayed.NoRoom n) = refl
-said_answered (Replayed.BadEntry k) = refl
-
-pub said_once : (r s : Replayed) → replayed_says r ≡ replayed_says s → r ≡ s
-said_once r s e = sym (said_answered r) ∙ ap answered e ∙ said_answered s

@@ -2,7 +2,7 @@
 -- afterwards, in e and f. Assumes nothing.
 use mathlib.Core.Path.{◌≡◌, sym, ◌∙◌}
 use Rattle.call_replays.proofs.replay.Reads as replay
-use Rattle.call_replays.proofs.Said.{said_once}
+use Rattle.words.proofs.Said.{counted_once}
 
 pub replay_settled : (κs : _) (a : _) (x y : _) (e f : _) → replay.Learnt κs a x e → replay.Learnt κs a y f → (x ≡ y) × (e.1.1.1.0.now ≡ f.1.1.1.0.now)
-replay_settled κs a x y e f p q = (said_once x y (p.0 ∙ sym q.0), p.1 ∙ sym q.1)
+replay_settled κs a x y e f p q = (counted_once x y (p.0 ∙ sym q.0), p.1 ∙ sym q.1)

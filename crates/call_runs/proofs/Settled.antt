@@ -2,7 +2,7 @@
 -- afterwards, in e and f. Assumes nothing.
 use mathlib.Core.Path.{◌≡◌, sym, ◌∙◌}
 use Rattle.call_runs.proofs.runs.Reads as runs
-use Rattle.call_runs.proofs.Said.{said_once}
+use Rattle.words.proofs.Said.{counted_once}
 
 pub runs_settled : (κs : _) (a : _) (x y : _) (e f : _) → runs.Learnt κs a x e → runs.Learnt κs a y f → (x ≡ y) × (e.1.0.now ≡ f.1.0.now)
-runs_settled κs a x y e f p q = (said_once x y (p.0 ∙ sym q.0), p.1 ∙ sym q.1)
+runs_settled κs a x y e f p q = (counted_once x y (p.0 ∙ sym q.0), p.1 ∙ sym q.1)

@@ -6,14 +6,15 @@
 ghost use Rattle.std.specs.Prelude.{◌≡◌, ◌++◌, ◌≤◌, length, drop};
 ghost use Rattle.words.specs.Groups.{table};
 ghost use Rattle.words.specs.Logs.{within};
-ghost use Rattle.words.specs.Answers.{tabled_says};
+ghost use Rattle.words.specs.Answers.{counted_says};
 ghost use Rattle.words.specs.Calls.{table_answer, table_leaves};
 
-use read_edges::{MOST, copy_names};
+use read_edges::{check_length, copy_names};
 use step1_rows::NAME;
+use step2_bits::Places;
 use step3_lists::pass;
 use steps::{begin, onward};
-use words::Tabled;
+use words::Refusal;
 
 // the table at width w goes to the front of `out`
 fn write_table(out: &mut [u16], read: &[u8], w: u16)
@@ -22,11 +23,12 @@ fn write_table(out: &mut [u16], read: &[u8], w: u16)
 {
     let n = read.len() as u16;
     let mut a = [[0u16; 1000]; 12];
-    let mut small = [0u64; 17];
+    let mut small = Places::none();
     // the starts of the widths, which no table asks for
-    let mut found = [0u64; 17];
+    let mut found = Places::none();
     begin(&mut a, &mut small, read, n);
     let mut v: u16 = 1;
+    // a `for` is no plainer: `onward` says which width is next, and ends the walk once nothing moves
     while v < w {
         pass(&mut found, &mut a, v);
         v = onward(&mut a, &mut small, n, v, w);
@@ -38,28 +40,22 @@ fn write_table(out: &mut [u16], read: &[u8], w: u16)
 fn is_width(n: u32, width: u32) -> bool
     ensures { result ≡ within 1 n width }
 {
-    let low = width < 1;
-    if low {
-        return false;
-    }
-    width <= n
+    (1..=n).contains(&width)
 }
 
 // The table at a width, to the front of `out`.
-pub fn group_table(read: &[u8], width: u32, out: &mut [u16]) -> Tabled
-    ensures { (tabled_says result ≡ table_answer read.now width out.old)
+pub fn group_table(read: &[u8], width: u32, out: &mut [u16]) -> Result<usize, Refusal>
+    ensures { (counted_says result ≡ table_answer read.now width out.old)
         × (out.new ≡ table_leaves read.now width out.old) }
 {
+    check_length(read)?;
     let long = read.len();
-    if MOST < long {
-        return Tabled::TooLong(long);
-    }
     if !is_width(long as u32, width) {
-        return Tabled::BadWidth(width);
+        return Err(Refusal::OutOfRange(width));
     }
     if out.len() < long {
-        return Tabled::NoRoom(long);
+        return Err(Refusal::NoRoom(long));
     }
     write_table(out, read, width as u16);
-    Tabled::Names(long)
+    Ok(long)
 }

@@ -12,9 +12,10 @@ ghost use Rattle.row_cells.specs.Listing.{Listing};
 ghost use Rattle.call_periods.specs.Periods.{row_size};
 ghost use Rattle.call_widths.specs.Looks.{looked, seen_at};
 
-use call_periods::rows_at;
+use call_periods::{Sight, rows_at};
 use read_edges::top_of;
 use step1_rows::DIST;
+use step2_bits::Places;
 use step3_lists::pass;
 use steps::{begin, onward};
 
@@ -25,37 +26,27 @@ pub struct Tally {
     pub periods: usize,
 }
 
-// one period more, if there are more rows than before
-fn counted(periods: usize, before: usize, after: usize) -> usize
-    requires { periods ≤ 1000 }
-    ensures { result ≡ periods + bit (ltb before after) }
-{
-    if before < after {
-        return periods + 1;
-    }
-    periods
-}
-
-// the runs of a read, or its lines in a mode, as far as there is room
-fn look_widths(out: &mut [u16], read: &[u8], runs: bool, mode: u32) -> Tally
+// what is looked for in a read, as far as there is room
+fn look_widths(out: &mut [u16], read: &[u8], sight: Sight) -> Tally
     requires { length read.now ≤ 1000 }
-    ensures { Listing (row_size runs) out.old (looked read.now runs mode) result.rows out.new
-        × (result.periods ≡ seen_at read.now runs mode) }
+    ensures { Listing (row_size sight) out.old (looked read.now sight) result.rows out.new
+        × (result.periods ≡ seen_at read.now sight) }
 {
     let n = read.len() as u16;
     let mut a = [[0u16; 1000]; 12];
-    let mut small = [0u64; 17];
-    let mut found = [0u64; 17];
+    let mut small = Places::none();
+    let mut found = Places::none();
     let mut count = [0u16; 1000];
     begin(&mut a, &mut small, read, n);
     let top = top_of(n);
     let mut p: u16 = 1;
     let mut rows: usize = 0;
     let mut periods: usize = 0;
+    // a `for` is no plainer: `onward` says which width is next, and ends the walk once nothing moves
     while p <= top {
         pass(&mut found, &mut a, p);
-        let more = rows_at(out, &mut count, &mut found, &a[DIST], runs, mode, p, rows);
-        periods = counted(periods, rows, more);
+        let more = rows_at(out, &mut count, &mut found, &a[DIST], sight, p, rows);
+        periods += usize::from(rows < more);
         rows = more;
         p = onward(&mut a, &mut small, n, p, top);
     }
@@ -68,7 +59,7 @@ pub fn list_widths(out: &mut [u16], read: &[u8], mode: u32) -> Tally
     ensures { Listing line_size out.old (lines_of read.now (in_mode read.now mode)) result.rows out.new
         × (result.periods ≡ entry_count (lines_of read.now (in_mode read.now mode))) }
 {
-    look_widths(out, read, false, mode)
+    look_widths(out, read, Sight::Lines(mode))
 }
 
 // both counts alone: the lines are made into an array that has room for none
@@ -86,5 +77,5 @@ pub fn run_widths(out: &mut [u16], read: &[u8]) -> usize
     requires { length read.now ≤ 1000 }
     ensures { Listing run_size out.old (runs_of read.now) result out.new }
 {
-    look_widths(out, read, true, 0).rows
+    look_widths(out, read, Sight::Runs).rows
 }

@@ -4,10 +4,9 @@ use mathlib.Core.Path.{◌≡◌}
 use mathlib.Core.List.{List}
 use Rattle.words.specs.Rows.{rows}
 use Rattle.words.specs.Lists.{line_size, lines, line_count, in_mode}
-use Rattle.words.specs.Answers.{success, refusal, listed_says}
+use Rattle.words.specs.Answers.{success, refusal, counted_says}
 use Rattle.words.proofs.Afterwards.{front}
 use Rattle.words_runs.specs.Runs.{run_size, runs, run_count}
-use Rattle.words_runs.specs.Calls.{runs_listed_says}
 use Rattle.words_agree.specs.Lists.{lines_by_runs}
 use Rattle.words_agree.proofs.Lists.{InRun, InOneRun, lists_agree, lists_one_run}
 use Rattle.words_agree.proofs.ByRuns.{list_by_runs}
@@ -29,9 +28,9 @@ agree_lists x = record { in_run = lists_agree x; in_one_run = lists_one_run x; u
 
 -- where both calls succeed, the front of the one slice is as many lines as its call answers, the front of the other as many runs, and these agree
 pub runs_and_repeats_agree : (κs : _) (a : _) (r : _) (e : _) → list-call.Learnt κs a r e → (ls : _) (b : _) (q : _) (f : _) → Runs-call.Learnt ls b q f
-    → b.0.now ≡ a.0.now → a.1.0 ≡ 0 → (listed_says r).number ≡ 0 → (runs_listed_says q).number ≡ 0
-    → (l s : List ℕ) × (e.1.1.0.now ≡ front l a.1.1.0.now) × (listed_says r ≡ success (rows line_size l))
-    × (f.1.0.now ≡ front s b.1.0.now) × (runs_listed_says q ≡ success (rows run_size s)) × RunsAndRepeatsAgree l s
+    → b.0.now ≡ a.0.now → a.1.0 ≡ 0 → (counted_says r).number ≡ 0 → (counted_says q).number ≡ 0
+    → (l s : List ℕ) × (e.1.1.0.now ≡ front l a.1.1.0.now) × (counted_says r ≡ success (rows line_size l))
+    × (f.1.0.now ≡ front s b.1.0.now) × (counted_says q ≡ success (rows run_size s)) × RunsAndRepeatsAgree l s
 unfolding success refusal line_count run_count
 runs_and_repeats_agree κs a r e h ls b q f g same mode ok done =
     let x : List ℕ = a.0.now in

@@ -16,14 +16,16 @@ use Rattle.words.specs.Groups.{table}
 use Rattle.words.specs.Moves.{top_of, move_size, log, M}
 use Rattle.words.specs.Replay.{replay}
 use Rattle.words.specs.Logs.{within, first_bad, well_formed}
-use Rattle.words.specs.Answers.{Answer, success, both, refusal}
+use Rattle.words.specs.Answers.{Answer, success, both, refusal, refused_says, says}
 use Rattle.words.specs.Calls.{refuse, too_long, afterwards, list_afterwards, list_answer, list_leaves, table_answer, table_leaves, log_answer, log_leaves, replay_answer, replay_leaves}
 use Rattle.words_index.specs.Index.{in_order, entry_size, entry_count}
 use Rattle.words_index.specs.Calls.{index_answer, index_leaves, list_index_answer, list_index_leaves, list_index_beside}
 use Rattle.words_runs.specs.Runs.{run_size, runs, run_count}
 use Rattle.words_runs.specs.Calls.{runs_answer, runs_leaves}
-use Rattle.words_claims.specs.Calls.{verdict, claimed_says, claim_answer}
-use Rattle.words_claims.specs.declared.Claimed.{Claimed}
+use Rattle.words_claims.specs.Calls.{verdict, verdict_says, claimed_says, claim_answer}
+use Rattle.std.specs.Prelude.{Result, Ok, Err}
+use Rattle.words.specs.declared.Refusal.{Refusal}
+use Rattle.words_claims.specs.declared.Verdict.{Verdict}
 use Rattle.words_claims.proofs.Verdicts.{tells_long}
 use Rattle.words_claims.proofs.Truth.{Says, told_if_so}
 use Rattle.words_primers.specs.Primers.{longest, first_foreign, places, reverse_complement}
@@ -174,16 +176,16 @@ module _ (x l : List ℕ) (w : ℕ) (out : List ℕ) where
 
 module _ (x : List ℕ) (i p e : ℕ) where
   -- every answer but that of a read too long is a success
-  told_success : length x ≤ most → (v : Claimed) → Says x i p e v → claimed_says v ≡ record { number = 0; values = (claimed_says v).values }
-  unfolding claimed_says success both
-  told_success h Claimed.Yes s = refl
-  told_success h (Claimed.Copies c) s = refl
-  told_success h (Claimed.Shorter d) s = refl
-  told_success h Claimed.Outside s = refl
-  told_success h (Claimed.TooLong n) s = absurd (omega (arith, s.0))
+  told_success : length x ≤ most → (v : Result Verdict Refusal) → Says x i p e v → claimed_says v ≡ record { number = 0; values = (claimed_says v).values }
+  unfolding says verdict_says success both
+  told_success h (Ok Verdict.Yes) s = refl
+  told_success h (Ok (Verdict.Copies c)) s = refl
+  told_success h (Ok (Verdict.Shorter d)) s = refl
+  told_success h (Ok Verdict.Outside) s = refl
+  told_success h (Err r) s = absurd (omega (arith, s.0))
 
   pub claim_by : By (claim_rows x i p e) (claim_answer x i p e) []
-  unfolding claim_answer claimed_says refusal
+  unfolding claim_answer says refused_says refusal
   claim_by = goes_by (claim_rows x i p e) _ _ (⊎_elim (λ h. (1, h)) (λ h. (0, h)) (lt_or_ge most (length x))) gives
     where
       gives : Follows (claim_rows x i p e) (claim_answer x i p e) []

@@ -14,11 +14,9 @@ use Rattle.words.specs.Repeats.{repeats, leads}
 use Rattle.words.specs.Lists.{line_of, line_size, lines, line_count, in_mode}
 use Rattle.words.specs.Moves.{top_of, top, move_of, move_size, log, M}
 use Rattle.words.specs.Logs.{before}
-use Rattle.words.specs.Answers.{success, refusal, listed_says, tabled_says, logged_says, replayed_says}
-use Rattle.words_index.specs.Calls.{indexed_says, list_indexed_says}
-use Rattle.words_runs.specs.Calls.{runs_listed_says}
+use Rattle.words.specs.Answers.{success, refusal, counted_says}
+use Rattle.words_index.specs.Calls.{list_indexed_says}
 use Rattle.words_claims.specs.Calls.{claimed_says}
-use Rattle.words_primers.specs.Calls.{placed_says, turned_says}
 use Rattle.words.specs.Calls.{table_answer, table_leaves, replay_answer, replay_leaves}
 use Rattle.words.proofs.Tests.{lt_or_ge}
 use Rattle.words.proofs.Rows.{Has, rows_times}
@@ -44,7 +42,8 @@ use Rattle.call_claims.proofs.motif.Reads as motif-call
 use Rattle.call_primers.proofs.find_primer.Reads as find-call
 use Rattle.call_primers.proofs.reverse_complement.Reads as turn-call
 use Rattle.call_reader.proofs.take_at.Reads as take-call
-use Rattle.call_reader.proofs.Learnt.{NewAsked, NewLearnt, NextAsked, NextLearnt}
+use Rattle.call_reader.proofs.LogReader.new.Reads as new-call
+use Rattle.call_reader.proofs.LogReaderIterator.next.Reads as next-call
 use Rattle.lister.proofs.Refusals.{By, list_rows, runs_rows, table_rows, log_rows, replay_rows, claim_rows, find_rows, turn_rows, index_rows, list_index_rows, beside_rows}
 use Rattle.lister.proofs.Answered.{by_equal, list_by, runs_by, table_by, log_by, replay_by, claim_by, find_by, turn_by, index_by, list_index_by, beside_by}
 use Rattle.lister.proofs.Handed.{MotifOf, motif_of, TakesOf, takes_of, LooksOf, looks_of}
@@ -54,23 +53,23 @@ use Rattle.lister.proofs.Steps.{Steps, steps_of, steps_sum}
 
 -- every call takes any input, its answer and slice go by its table of refusals, and motif and entry are given exactly when they should be
 pub record EveryCallIsAnswered : Type 0 where
-  pub list : (κs : _) (a : _) → list-call.Asked κs a × ((r : _) (e : _) → list-call.Learnt κs a r e → By (list_rows a.0.now a.1.0 a.1.1.0.now) (listed_says r) e.1.1.0.now)
-  pub runs : (κs : _) (a : _) → Runs-call.Asked κs a × ((r : _) (e : _) → Runs-call.Learnt κs a r e → By (runs_rows a.0.now a.1.0.now) (runs_listed_says r) e.1.0.now)
-  pub table : (κs : _) (a : _) → table-call.Asked κs a × ((r : _) (e : _) → table-call.Learnt κs a r e → By (table_rows a.0.now a.1.0 a.1.1.0.now) (tabled_says r) e.1.1.0.now)
-  pub log : (κs : _) (a : _) → log-call.Asked κs a × ((r : _) (e : _) → log-call.Learnt κs a r e → By (log_rows a.0.now a.1.0.now) (logged_says r) e.1.0.now)
-  pub replay : (κs : _) (a : _) → replay-call.Asked κs a × ((r : _) (e : _) → replay-call.Learnt κs a r e → By (replay_rows a.0.now a.1.0.now a.1.1.0 a.1.1.1.0.now) (replayed_says r) e.1.1.1.0.now)
+  pub list : (κs : _) (a : _) → list-call.Asked κs a × ((r : _) (e : _) → list-call.Learnt κs a r e → By (list_rows a.0.now a.1.0 a.1.1.0.now) (counted_says r) e.1.1.0.now)
+  pub runs : (κs : _) (a : _) → Runs-call.Asked κs a × ((r : _) (e : _) → Runs-call.Learnt κs a r e → By (runs_rows a.0.now a.1.0.now) (counted_says r) e.1.0.now)
+  pub table : (κs : _) (a : _) → table-call.Asked κs a × ((r : _) (e : _) → table-call.Learnt κs a r e → By (table_rows a.0.now a.1.0 a.1.1.0.now) (counted_says r) e.1.1.0.now)
+  pub log : (κs : _) (a : _) → log-call.Asked κs a × ((r : _) (e : _) → log-call.Learnt κs a r e → By (log_rows a.0.now a.1.0.now) (counted_says r) e.1.0.now)
+  pub replay : (κs : _) (a : _) → replay-call.Asked κs a × ((r : _) (e : _) → replay-call.Learnt κs a r e → By (replay_rows a.0.now a.1.0.now a.1.1.0 a.1.1.1.0.now) (counted_says r) e.1.1.1.0.now)
   pub claim : (κs : _) (a : _) → claim-call.Asked κs a × ((r : _) (e : _) → claim-call.Learnt κs a r e → By (claim_rows a.0.now a.1.0 a.1.1.0 a.1.1.1.0) (claimed_says r) [])
-  pub find : (κs : _) (a : _) → find-call.Asked κs a × ((r : _) (e : _) → find-call.Learnt κs a r e → By (find_rows a.0.now a.1.0.now a.1.1.0.now) (placed_says r) e.1.1.0.now)
-  pub turn : (κs : _) (a : _) → turn-call.Asked κs a × ((r : _) (e : _) → turn-call.Learnt κs a r e → By (turn_rows a.0.now a.1.0.now) (turned_says r) e.1.0.now)
+  pub find : (κs : _) (a : _) → find-call.Asked κs a × ((r : _) (e : _) → find-call.Learnt κs a r e → By (find_rows a.0.now a.1.0.now a.1.1.0.now) (counted_says r) e.1.1.0.now)
+  pub turn : (κs : _) (a : _) → turn-call.Asked κs a × ((r : _) (e : _) → turn-call.Learnt κs a r e → By (turn_rows a.0.now a.1.0.now) (counted_says r) e.1.0.now)
   pub list_index : (κs : _) (a : _) → both-call.Asked κs a × ((r : _) (e : _) → both-call.Learnt κs a r e
       → By (list_index_rows a.0.now a.1.0 a.1.1.0.now a.1.1.1.0.now) (list_indexed_says r) e.1.1.0.now
       × By (beside_rows a.0.now a.1.0 a.1.1.0.now a.1.1.1.0.now) (list_indexed_says r) e.1.1.1.0.now)
-  pub index : (κs : _) (a : _) → index-call.Asked κs a × ((r : _) (e : _) → index-call.Learnt κs a r e → By (index_rows a.0.now a.1.0.now) (indexed_says r) e.1.0.now)
+  pub index : (κs : _) (a : _) → index-call.Asked κs a × ((r : _) (e : _) → index-call.Learnt κs a r e → By (index_rows a.0.now a.1.0.now) (counted_says r) e.1.0.now)
   pub lookup : (κs : _) (a : _) → lookup-call.Asked κs a × ((r : _) (e : _) → lookup-call.Learnt κs a r e → LooksOf a.0.now a.1.0 r)
   pub motif : (κs : _) (a : _) → motif-call.Asked κs a × ((r : _) (e : _) → motif-call.Learnt κs a r e → MotifOf a.0 a.1.0 a.1.1.0 a.1.1.1.0 r)
   pub take : (κs : _) (a : _) → take-call.Asked κs a × ((r : _) (e : _) → take-call.Learnt κs a r e → TakesOf a.0.now a.1.0 r.entry r.at)
-  pub new : (κs : _) (a : _) → NewAsked κs a × ((r : _) (e : _) → NewLearnt κs a r e → (r.log ≡ a.0) × (r.at ≡ 0))
-  pub next : (κs : _) (a : _) → NextAsked κs a × ((r : _) (e : _) → NextLearnt κs a r e → TakesOf a.0.now.log.now a.0.now.at r e.0.now.at × (e.0.now.log ≡ a.0.now.log))
+  pub new : (κs : _) (a : _) → new-call.Asked κs a × ((r : _) (e : _) → new-call.Learnt κs a r e → (r.log ≡ a.0) × (r.at ≡ 0))
+  pub next : (κs : _) (a : _) → next-call.Asked κs a × ((r : _) (e : _) → next-call.Learnt κs a r e → TakesOf a.0.now.log.now a.0.now.at r e.0.now.at × (e.0.now.log ≡ a.0.now.log))
 
 pub every_call_is_answered : EveryCallIsAnswered
 every_call_is_answered =
@@ -89,7 +88,7 @@ every_call_is_answered =
       motif = λ κs a. (tt, λ r e h. motif_of _ _ _ _ r h.0 h.1 h.2);
       take = λ κs a. (tt, λ r e h. takes_of _ _ _ _ (ap (λ t. t.entry) h) (ap (λ t. t.at) h));
       new = λ κs a. (tt, λ r e h. (ap (λ t. t.log) h, ap (λ t. t.at) h));
-      next = λ κs a. (tt, λ r e h. (takes_of _ _ _ _ h.0 (ap (λ t. t.at) h.1), ap (λ t. t.log) h.1));
+      next = λ κs a. (tt, λ r e h. (takes_of _ _ _ _ h.0.0 (ap (λ t. t.at) h.0.1), ap (λ t. t.log) h.0.1));
     }
 
 -- ---- the second demand
@@ -125,8 +124,8 @@ crochemores_lines x mode =
         )
 
 -- where the list call succeeds, the front of the slice is exactly Crochemore's list, the rest is as it was, and the answer is its number of lines
-pub list_is_crochemores : (κs : _) (a : _) (r : _) (e : _) → list-call.Learnt κs a r e → (listed_says r).number ≡ 0
-    → (made : List ℕ) × (e.1.1.0.now ≡ front made a.1.1.0.now) × (listed_says r ≡ success (rows line_size made)) × Crochemores a.0.now a.1.0 made
+pub list_is_crochemores : (κs : _) (a : _) (r : _) (e : _) → list-call.Learnt κs a r e → (counted_says r).number ≡ 0
+    → (made : List ℕ) × (e.1.1.0.now ≡ front made a.1.1.0.now) × (counted_says r ≡ success (rows line_size made)) × Crochemores a.0.now a.1.0 made
 unfolding success refusal line_count
 list_is_crochemores κs a r e h ok =
     let B = (every_call_is_answered.list κs a).1 r e h in
@@ -144,7 +143,7 @@ pub record GivesTheGroups (x l : List ℕ) : Type 0 where
   pub summed : (p : ℕ → Partition) (m : ℕ → ℕ) → Steps x p m → rows move_size l ≡ sum m (top x - 1) 1
   pub groups : (κs : _) (a : _) (r : _) (e : _) → replay-call.Learnt κs a r e → (ls : _) (b : _) (q : _) (f : _) → table-call.Learnt ls b q f
       → a.0.now ≡ x → a.1.0.now ≡ l → b.0.now ≡ x → b.1.0 ≡ a.1.1.0 → b.1.1.0.now ≡ a.1.1.1.0.now → 1 ≤ length x → 1 ≤ b.1.0 → b.1.0 ≤ top x
-      → (replayed_says r ≡ tabled_says q) × (e.1.1.1.0.now ≡ f.1.1.0.now)
+      → (counted_says r ≡ counted_says q) × (e.1.1.1.0.now ≡ f.1.1.0.now)
 
 module _ (x : List ℕ) (w : ℕ) (out : List ℕ) (some : 1 ≤ length x) (low : 1 ≤ w) (high : w ≤ top x) where
   -- the replay of the read's own log says and leaves what the group table does, the refusals too
@@ -182,8 +181,8 @@ log_gives x =
     }
 
 -- where the log call succeeds, the front of the slice is such a log, the rest is as it was, and the answer is its number of moves
-pub log_alone_gives_the_groups : (κs : _) (a : _) (r : _) (e : _) → log-call.Learnt κs a r e → (logged_says r).number ≡ 0
-    → (l : List ℕ) × (e.1.0.now ≡ front l a.1.0.now) × (logged_says r ≡ success (rows move_size l)) × GivesTheGroups a.0.now l
+pub log_alone_gives_the_groups : (κs : _) (a : _) (r : _) (e : _) → log-call.Learnt κs a r e → (counted_says r).number ≡ 0
+    → (l : List ℕ) × (e.1.0.now ≡ front l a.1.0.now) × (counted_says r ≡ success (rows move_size l)) × GivesTheGroups a.0.now l
 unfolding success refusal
 log_alone_gives_the_groups κs a r e h ok =
     let B = (every_call_is_answered.log κs a).1 r e h in
@@ -191,7 +190,7 @@ log_alone_gives_the_groups κs a r e h ok =
     (log a.0.now, g.1, g.0, log_gives a.0.now)
 
 -- where the group table call succeeds, the front of the slice is the groups of the read's partition after width - 1 steps
-pub table_is_the_partitions : (κs : _) (a : _) (r : _) (e : _) → table-call.Learnt κs a r e → (tabled_says r).number ≡ 0
+pub table_is_the_partitions : (κs : _) (a : _) (r : _) (e : _) → table-call.Learnt κs a r e → (counted_says r).number ≡ 0
     → (p : ℕ → Partition) (m : ℕ → ℕ) → Steps a.0.now p m → e.1.1.0.now ≡ front (groups (p a.1.0)) a.1.1.0.now
 table_is_the_partitions κs a r e h ok p m S =
     let B = (every_call_is_answered.table κs a).1 r e h in

@@ -10,12 +10,12 @@ use borrow.Author.Tests.{lt-ltb, le-ltb}
 use Rattle.words.specs.Rows.{rows}
 use Rattle.words.specs.Reads.{most}
 use Rattle.words.specs.Lists.{line_size, lines, line_count, in_mode}
-use Rattle.words.specs.Answers.{Answer, success, both, refusal, listed_says}
+use Rattle.words.specs.Answers.{Answer, success, both, refusal, counted_says}
 use Rattle.words.specs.Calls.{refuse, afterwards}
 use Rattle.words.proofs.Tests.{lt_or_ge}
 use Rattle.words.proofs.Lists.{lines_full}
 use Rattle.words_index.specs.Index.{entry_size, entry_count}
-use Rattle.words_index.specs.Calls.{index_answer, index_leaves, indexed_says, list_index_answer, list_index_beside, list_indexed_says}
+use Rattle.words_index.specs.Calls.{index_answer, index_leaves, list_index_answer, list_index_beside, list_indexed_says}
 use Rattle.words_index.proofs.OfList.{lines_in_order}
 use Rattle.call_lists.proofs.list.Reads as list-call
 use Rattle.call_list_indexes.proofs.list_index.Reads as both-call
@@ -46,10 +46,10 @@ alike x mode out s h m l = go (lt_or_ge (rows entry_size s) (entry_count (lines 
 
 -- Where `list` succeeds, `index` of the lines that it wrote never says that they are out of place; it answers by the number that `list_index` answers by on
 -- the same read and slices, and leaves the same index.
-pub two_ways_agree : (κs : _) (a : _) (r : _) (e : _) → list-call.Learnt κs a r e → (listed_says r).number ≡ 0
-    → (κt : _) (b : _) (q : _) (f : _) → index-call.Learnt κt b q f → b.0.now ≡ take (line_size * get_or (listed_says r).values 0 0) e.1.1.0.now
+pub two_ways_agree : (κs : _) (a : _) (r : _) (e : _) → list-call.Learnt κs a r e → (counted_says r).number ≡ 0
+    → (κt : _) (b : _) (q : _) (f : _) → index-call.Learnt κt b q f → b.0.now ≡ take (line_size * get_or (counted_says r).values 0 0) e.1.1.0.now
     → (κu : _) (c : _) (s : _) (g : _) → both-call.Learnt κu c s g → c.0.now ≡ a.0.now → c.1.0 ≡ a.1.0 → c.1.1.0.now ≡ a.1.1.0.now → c.1.1.1.0.now ≡ b.1.0.now
-    → ((indexed_says q).number ≢ 6) × ((indexed_says q).number ≡ (list_indexed_says s).number) × (f.1.0.now ≡ g.1.1.1.0.now)
+    → ((counted_says q).number ≢ 6) × ((counted_says q).number ≡ (list_indexed_says s).number) × (f.1.0.now ≡ g.1.1.1.0.now)
 unfolding success refusal line_count
 two_ways_agree κs a r e L ok κt b q f I el κu c s g B ex em eo ei =
     let x = a.0.now in
@@ -58,7 +58,7 @@ two_ways_agree κs a r e L ok κt b q f I el κu c s g B ex em eo ei =
     let by = list_by x mode out in
     let w = (by.exactly 0).0 (ap (λ (v : Answer). v.number) (sym L.0) ∙ ok) in
     let G = by.gives 0 w in
-    let k : get_or (listed_says r).values 0 0 ≡ line_count x (in_mode x mode) = ap (λ (v : Answer). get_or v.values 0 0) (L.0 ∙ G.0) in
+    let k : get_or (counted_says r).values 0 0 ≡ line_count x (in_mode x mode) = ap (λ (v : Answer). get_or v.values 0 0) (L.0 ∙ G.0) in
     let made : b.0.now ≡ lines x (in_mode x mode) =
     el ∙ ap (λ (v : ℕ). take (line_size * v) e.1.1.0.now) k
     ∙ ap (take (line_size * line_count x (in_mode x mode))) (L.1 ∙ G.1)

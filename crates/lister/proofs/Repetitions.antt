@@ -7,11 +7,10 @@ use mathlib.Core.List.{List}
 use lib.ListN.{length}
 use Rattle.words.specs.Rows.{row, rows}
 use Rattle.words.specs.Reads.{at, unread}
-use Rattle.words.specs.Answers.{success, refusal}
+use Rattle.words.specs.Answers.{success, refusal, counted_says}
 use Rattle.words.proofs.Rows.{Has}
 use Rattle.words.proofs.Afterwards.{front}
 use Rattle.words_runs.specs.Runs.{run, reach, run_of, run_size, runs, run_count}
-use Rattle.words_runs.specs.Calls.{runs_listed_says}
 use Rattle.words_runs.proofs.Runs.{run_is, run-reach}
 use Rattle.words_runs.proofs.Lists.{runs_full, runs-row, runs_exactly, runs_ordered, runs_once}
 use Rattle.words_runs.proofs.Unread.{run_read}
@@ -41,8 +40,8 @@ maximal_runs x =
     }
 
 -- where the call succeeds, the front of the slice is exactly the list of runs, the rest is as it was, and the answer is their number
-pub runs_are_the_maximal_repetitions : (κs : _) (a : _) (r : _) (e : _) → Runs-call.Learnt κs a r e → (runs_listed_says r).number ≡ 0
-    → (made : List ℕ) × (e.1.0.now ≡ front made a.1.0.now) × (runs_listed_says r ≡ success (rows run_size made)) × MaximalRepetitions a.0.now made
+pub runs_are_the_maximal_repetitions : (κs : _) (a : _) (r : _) (e : _) → Runs-call.Learnt κs a r e → (counted_says r).number ≡ 0
+    → (made : List ℕ) × (e.1.0.now ≡ front made a.1.0.now) × (counted_says r ≡ success (rows run_size made)) × MaximalRepetitions a.0.now made
 unfolding success refusal run_count
 runs_are_the_maximal_repetitions κs a r e h ok =
     let B = (every_call_is_answered.runs κs a).1 r e h in

@@ -7,7 +7,7 @@ use lib.ListN.{length, get_or}
 use Rattle.words.specs.Rows.{rows}
 use Rattle.words.specs.Reads.{unread}
 use Rattle.words.specs.Lists.{line_of, line_size, lines, line_count, in_mode}
-use Rattle.words.specs.Answers.{success, refusal, listed_says}
+use Rattle.words.specs.Answers.{success, refusal, counted_says}
 use Rattle.words_claims.specs.Calls.{claimed_says}
 use Rattle.words.proofs.Rows.{Has}
 use Rattle.words.proofs.Lists.{lines_exactly}
@@ -21,8 +21,8 @@ use Rattle.lister.proofs.Demands.{every_call_is_answered}
 use Rattle.lister.proofs.Claims.{yes_exactly_for_a_repeat}
 
 -- where the list call succeeds, not one of the p·c bytes of a line (i, p, c) is an N, in either mode
-pub no_line_rests_on_an_unread_base : (κs : _) (a : _) (r : _) (e : _) → list-call.Learnt κs a r e → (listed_says r).number ≡ 0
-    → (made : List ℕ) × (e.1.1.0.now ≡ front made a.1.1.0.now) × (listed_says r ≡ success (rows line_size made))
+pub no_line_rests_on_an_unread_base : (κs : _) (a : _) (r : _) (e : _) → list-call.Learnt κs a r e → (counted_says r).number ≡ 0
+    → (made : List ℕ) × (e.1.1.0.now ≡ front made a.1.1.0.now) × (counted_says r ≡ success (rows line_size made))
     × ((i p c : ℕ) → Has line_size made (line_of i p c) → Read a.0.now (p * c) i)
 unfolding success refusal line_count
 no_line_rests_on_an_unread_base κs a r e h ok =

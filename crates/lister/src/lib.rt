@@ -11,7 +11,7 @@ pub use call_lists::list;
 pub use call_logs::log;
 pub use call_lookups::lookup;
 pub use call_primers::{find_primer, reverse_complement};
-pub use call_reader::{LogReader, new, next};
+pub use call_reader::LogReader;
 pub use call_replays::replay;
 pub use call_runs::runs;
 pub use call_tables::group_table;

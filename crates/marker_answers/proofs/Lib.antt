@@ -1,3 +1,2 @@
-pub mod Twos
 pub mod Refused
 pub mod Settled

@@ -12,9 +12,10 @@ ghost use Rattle.marker_calls.specs.Parts.{shown_part};
 
 use call_copies::copies_at;
 use marker_fits::fit;
-use marker_houses::{Found, house_place};
+use marker_houses::house_place;
 use marker_seats::seat;
-use words_markers::{Scored, Seats, Shown, Site};
+use words::Refusal;
+use words_markers::{Scored, Shown};
 
 // A part of the house list where `house` is 1, of the read where it is 0: where it starts, counted from 0, and how many bytes it has.
 #[repr(C)]
@@ -26,36 +27,37 @@ pub struct ShownPart {
 }
 
 // where the repeat starts that is scored, or why there is none
-fn find_site(read: &[u8], left: &[u8], right: &[u8], motif: &[u8]) -> Site
+fn find_site(read: &[u8], left: &[u8], right: &[u8], motif: &[u8]) -> Result<usize, Refusal>
     ensures { result ≡ site read.now left.now right.now motif.now }
 {
-    match seat(read, left, right) {
-        Seats::Between { from, to } => fit(read, motif, from, to),
-        Seats::Not(why) => Site::Not(why),
-    }
+    let between = seat(read, left, right)?;
+    fit(read, motif, between.from, between.to)
 }
 
 // the score of so many copies: they, and how many more than the reference they are
 fn score_of(copies: usize, reference: u8) -> Scored
     requires { copies ≤ most }
-    ensures { scored_says result ≡ score_of copies reference }
+    ensures { scored_says (Ok result) ≡ score_of copies reference }
 {
-    let e = copies as i32;
-    let f = reference as i32;
-    Scored::Copies {
+    Scored {
         copies,
-        difference: e - f,
+        difference: copies as i32 - reference as i32,
     }
 }
 
 // the score of a read by a marker
-pub fn score(read: &[u8], left: &[u8], right: &[u8], motif: &[u8], reference: u8) -> Scored
+pub fn score(
+    read: &[u8],
+    left: &[u8],
+    right: &[u8],
+    motif: &[u8],
+    reference: u8,
+) -> Result<Scored, Refusal>
     ensures { scored_says result ≡ score_answer read.now left.now right.now motif.now reference }
 {
-    match find_site(read, left, right, motif) {
-        Site::At(i) => score_of(copies_at(read, i as u32, motif.len() as u32), reference),
-        Site::Not(why) => Scored::Not(why),
-    }
+    let i = find_site(read, left, right, motif)?;
+    let copies = copies_at(read, i as u32, motif.len() as u32);
+    Ok(score_of(copies, reference))
 }
 
 // of which slice the motif is shown, and where it starts there
@@ -66,17 +68,17 @@ fn place_shown(
     left: &[u8],
     right: &[u8],
     motif: &[u8],
-) -> Shown
+) -> Option<Shown>
     ensures { result ≡ shown_at read.now house.now number left.now right.now motif.now }
 {
-    let Site::At(i) = find_site(read, left, right, motif) else {
-        return Shown::Nothing;
+    let Ok(i) = find_site(read, left, right, motif) else {
+        return None;
     };
     let from = i - 1;
-    if let Found::At(at) = house_place(house, number, motif) {
-        return Shown::House(at);
+    match house_place(house, number, motif) {
+        Some(at) => Some(Shown::House(at)),
+        None => Some(Shown::Read(from)),
     }
-    Shown::Read(from)
 }
 
 // the motif shown for a marker. Its bytes can stand in both slices, and at more than one place of each, so the contract says besides the bytes which slice's block the part lies in,
@@ -95,15 +97,9 @@ pub fn shown<'a>(
         × (result.ref_ptr.1 ≡ (cond (of_house s) house.entry read.entry).ref_ptr.1 + from_of s) }
 {
     match place_shown(read, house, number, left, right, motif) {
-        Shown::House(from) => {
-            let to = from + motif.len();
-            return &house[from..to];
-        }
-        Shown::Read(from) => {
-            let to = from + motif.len();
-            return &read[from..to];
-        }
-        Shown::Nothing => return &read[..0],
+        Some(Shown::House(from)) => &house[from..from + motif.len()],
+        Some(Shown::Read(from)) => &read[from..from + motif.len()],
+        None => &read[..0],
     }
 }
 
@@ -120,17 +116,17 @@ pub fn shown_part(
 {
     let count = motif.len();
     match place_shown(read, house, number, left, right, motif) {
-        Shown::House(from) => ShownPart {
+        Some(Shown::House(from)) => ShownPart {
             house: 1,
             from,
             count,
         },
-        Shown::Read(from) => ShownPart {
+        Some(Shown::Read(from)) => ShownPart {
             house: 0,
             from,
             count,
         },
-        Shown::Nothing => ShownPart {
+        None => ShownPart {
             house: 0,
             from: 0,
             count: 0,

@@ -3,60 +3,41 @@
 #![tactic(auto)]
 
 ghost use Rattle.std.specs.Prelude.{◌≡◌, ◌≤◌, length};
+ghost use Rattle.std.specs.Option.{IfSome};
 ghost use Rattle.words_markers.specs.Houses.{line_end};
 ghost use Rattle.marker_houses.specs.Found.{line_found, house_place};
 
 use marker_bytes::same_bytes;
 
-// Where something stands in the house list, counted from 0, if it does.
-#[derive(Drop)]
-pub enum Found {
-    At(usize),
-    Nothing,
-}
-
 // where the line that starts at a place ends: at the first newline from there on, or at the end of the text
 fn line_end(house: &[u8], from: usize) -> usize
     requires { from ≤ length house.now }
-    ensures { result ≡ line_end house.now from }
+    ensures { (result ≡ line_end house.now from) × (from ≤ result) × (result ≤ length house.now) }
 {
-    let mut j = from;
-    while j < house.len() {
-        if house[j] == b'\n' {
-            return j;
-        }
-        j += 1;
-    }
-    j
+    let rest = &house[from..];
+    from + rest.iter().position(|b| *b == b'\n').unwrap_or(rest.len())
 }
 
-// where the line of a number starts, if there is one: a text that has ended has no line more
-fn line_from(house: &[u8], number: u32) -> Found
-    ensures { result ≡ line_found house.now number }
+// where the line of a number starts, counted from 0, if there is one: a text that has ended has no line more
+fn line_from(house: &[u8], number: u32) -> Option<usize>
+    ensures { (result ≡ line_found house.now number) × IfSome result (λ at. at ≤ length house.now) }
 {
     let mut at = 0;
-    let mut line = 0;
-    while line < number {
+    for _ in 0..number {
         let end = line_end(house, at);
         if end == house.len() {
-            return Found::Nothing;
+            return None;
         }
         at = end + 1;
-        line += 1;
     }
-    Found::At(at)
+    Some(at)
 }
 
-// where the house list has the marker: at the line of its number, if that is the motif
-pub fn house_place(house: &[u8], number: u32, motif: &[u8]) -> Found
+// where the house list has the marker, counted from 0, if it has it: at the line of its number, if that is the motif
+pub fn house_place(house: &[u8], number: u32, motif: &[u8]) -> Option<usize>
     ensures { result ≡ house_place house.now number motif.now }
 {
-    let Found::At(at) = line_from(house, number) else {
-        return Found::Nothing;
-    };
+    let at = line_from(house, number)?;
     let end = line_end(house, at);
-    if same_bytes(&house[at..end], motif) {
-        return Found::At(at);
-    }
-    Found::Nothing
+    same_bytes(&house[at..end], motif).then_some(at)
 }

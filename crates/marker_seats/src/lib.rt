@@ -9,12 +9,13 @@ ghost use Rattle.words_markers.specs.Sites.{seated, seats};
 
 use primer_judges::{first_foreign, good_length};
 use primer_scans::scan;
-use read_edges::MOST;
+use read_edges::check_length;
 use slots::wide;
-use words_markers::{Seats, Unscored};
+use words::{Refusal, Side};
+use words_markers::Seats;
 
 // the positions between two primers that were judged, after 10, 11 and 12. Room for one place tells the only one, and the count tells the rest
-fn seat_both(read: &[u8], left: &[u8], right: &[u8]) -> Seats
+fn seat_both(read: &[u8], left: &[u8], right: &[u8]) -> Result<Seats, Refusal>
     requires { (length read.now ≤ most) × (1 ≤ length left.now) × (length left.now ≤ longest) × (1 ≤ length right.now) × (length right.now ≤ longest) }
     ensures { result ≡ seated read.now left.now right.now }
 {
@@ -23,45 +24,43 @@ fn seat_both(read: &[u8], left: &[u8], right: &[u8]) -> Seats
     let lefts = scan(&mut first[..], read, left);
     let rights = scan(&mut second[..], read, right);
     if lefts == 0 {
-        return Seats::Not(Unscored::Missing(1));
+        return Err(Refusal::Missing(Side::Left));
     }
     if rights == 0 {
-        return Seats::Not(Unscored::Missing(2));
+        return Err(Refusal::Missing(Side::Right));
     }
     if 1 < lefts {
-        return Seats::Not(Unscored::MoreThanOnce(1));
+        return Err(Refusal::MoreThanOnce(Side::Left));
     }
     if 1 < rights {
-        return Seats::Not(Unscored::MoreThanOnce(2));
+        return Err(Refusal::MoreThanOnce(Side::Right));
     }
     let from = wide(first[0]) + left.len();
     let to = wide(second[0]);
     if to < from {
-        return Seats::Not(Unscored::OutOfOrder);
+        return Err(Refusal::OutOfOrder);
     }
-    Seats::Between { from, to }
+    Ok(Seats { from, to })
 }
 
 // the positions between the primers, or why there are none
-pub fn seat(read: &[u8], left: &[u8], right: &[u8]) -> Seats
+pub fn seat(read: &[u8], left: &[u8], right: &[u8]) -> Result<Seats, Refusal>
     ensures { result ≡ seats read.now left.now right.now }
 {
-    if MOST < read.len() {
-        return Seats::Not(Unscored::TooLong(read.len()));
-    }
+    check_length(read)?;
     if !good_length(left.len()) {
-        return Seats::Not(Unscored::BadLength(left.len()));
+        return Err(Refusal::BadLength(left.len()));
     }
     if !good_length(right.len()) {
-        return Seats::Not(Unscored::BadLength(right.len()));
+        return Err(Refusal::BadLength(right.len()));
     }
     let foreign = first_foreign(left);
     if foreign < left.len() {
-        return Seats::Not(Unscored::Foreign(foreign));
+        return Err(Refusal::Foreign(foreign));
     }
     let strange = first_foreign(right);
     if strange < right.len() {
-        return Seats::Not(Unscored::Foreign(strange));
+        return Err(Refusal::Foreign(strange));
     }
     seat_both(read, left, right)
 }

@@ -10,6 +10,7 @@ ghost use Rattle.partition.specs.Stand.{rows_of, Good, Of, groups, small_ones};
 ghost use Rattle.partition.specs.Kept.{KeptAs};
 
 use step1_rows::{AFTER, DIST, HEAD, NAME, PREV, SIZE};
+use step2_bits::Places;
 use step3_lists::pass;
 use steps::{advance, begin};
 
@@ -23,7 +24,7 @@ pub struct Partition {
     pub dist: [u16; 1000],
     pub head: [u16; 1000],
     pub after: [u16; 1000],
-    pub small: [u64; 17],
+    pub small: Places,
 }
 
 // A partition at the next width, and the number of moves that led there.
@@ -37,12 +38,15 @@ pub struct Stepped {
 fn rows_of(p: Partition) -> [[u16; 1000]; 12]
     ensures { result ≡ rows_of p }
 {
-    let name = p.name;
-    let size = p.size;
-    let prev = p.prev;
-    let dist = p.dist;
-    let head = p.head;
-    let after = p.after;
+    let Partition {
+        name,
+        size,
+        prev,
+        dist,
+        head,
+        after,
+        ..
+    } = p;
     let blank = [0u16; 1000];
     [
         name, size, prev, dist, head, after, blank, blank, blank, blank, blank, blank,
@@ -50,24 +54,18 @@ fn rows_of(p: Partition) -> [[u16; 1000]; 12]
 }
 
 // the partition that the rows hold
-fn kept(a: &[[u16; 1000]; 12], small: [u64; 17], n: u16, width: u16) -> Partition
+fn kept(a: &[[u16; 1000]; 12], small: Places, n: u16, width: u16) -> Partition
     ensures { KeptAs a.now small n width result }
 {
-    let name = a[NAME];
-    let size = a[SIZE];
-    let prev = a[PREV];
-    let dist = a[DIST];
-    let head = a[HEAD];
-    let after = a[AFTER];
     Partition {
         n,
         width,
-        name,
-        size,
-        prev,
-        dist,
-        head,
-        after,
+        name: a[NAME],
+        size: a[SIZE],
+        prev: a[PREV],
+        dist: a[DIST],
+        head: a[HEAD],
+        after: a[AFTER],
         small,
     }
 }
@@ -82,7 +80,7 @@ impl Partition {
     {
         let n = read.len() as u16;
         let mut a = [[0u16; 1000]; 12];
-        let mut small = [0u64; 17];
+        let mut small = Places::none();
         begin(&mut a, &mut small, read, n);
         kept(&a, small, n, 1)
     }
@@ -102,7 +100,7 @@ impl Partition {
         }
         let mut small = self.small;
         let mut a = rows_of(self);
-        let mut found = [0u64; 17];
+        let mut found = Places::none();
         pass(&mut found, &mut a, w);
         let m = advance(&mut a, &mut small, n, w);
         self = kept(&a, small, n, w + 1);

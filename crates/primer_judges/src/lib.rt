@@ -12,22 +12,19 @@ use base_sets::set_of;
 const LONGEST: usize = 60;
 
 // may a primer have so many letters?
+#[tactic(auto, unfolding(words::specs::Logs::within))]
 pub fn good_length(letters: usize) -> bool
     ensures { result ≡ within 1 longest letters }
 {
-    1 <= letters && letters <= LONGEST
+    (1..=LONGEST).contains(&letters)
 }
 
-// the first letter, from 0, that is none of the code; the length if all are
+// the first letter, from 0, that is none of the code; the length if all are, as in the definition that the refusal is worded by
 pub fn first_foreign(primer: &[u8]) -> usize
     ensures { result ≡ first_foreign primer.now }
 {
-    let mut k: usize = 0;
-    while k < primer.len() {
-        if set_of(primer[k]) == 0 {
-            return k;
-        }
-        k += 1;
-    }
-    k
+    primer
+        .iter()
+        .position(|b| set_of(*b) == 0)
+        .unwrap_or(primer.len())
 }

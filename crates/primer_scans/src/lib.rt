@@ -16,13 +16,10 @@ fn note(all: &mut [u64; 16], primer: u8, k: usize)
     requires { Words all.old × (primer < 16) × (k < longest) }
     ensures { Noted primer k 16 all.old all.new }
 {
-    let mut set: u8 = 0;
-    while set < 16 {
+    for set in 0..16u8 {
         if matches(set, primer) {
-            let s = set as usize;
-            all[s] = all[s] | (1u64 << k);
+            all[set as usize] |= 1u64 << k;
         }
-        set += 1;
     }
 }
 
@@ -32,10 +29,8 @@ fn letting(primer: &[u8]) -> [u64; 16]
     ensures { AllLet primer.now (length primer.now) result }
 {
     let mut all = [0u64; 16];
-    let mut k: usize = 0;
-    while k < primer.len() {
-        note(&mut all, set_of(primer[k]), k);
-        k += 1;
+    for (k, b) in primer.iter().enumerate() {
+        note(&mut all, set_of(*b), k);
     }
     all
 }
@@ -51,12 +46,11 @@ pub fn scan(out: &mut [u16], read: &[u8], primer: &[u8]) -> usize
     let last = primer.len() - 1;
     let mut fronts: u64 = 0;
     let mut count: usize = 0;
-    let mut j: usize = 0;
-    while j < read.len() {
-        fronts = (2 * fronts + 1) & all[set_in(&sets, read[j]) as usize];
-        j += 1;
-        if (fronts >> last) % 2 == 1 {
-            let i = j - last;
+    for (j, b) in read.iter().enumerate() {
+        fronts = (2 * fronts + 1) & all[set_in(&sets, *b) as usize];
+        let whole = (fronts >> last) % 2 == 1;
+        if whole {
+            let i = j + 1 - last;
             let place = [i as u16];
             add(out, count, &place);
             count += 1;

@@ -1,5 +1,5 @@
 -- The last position of each letter, one position more at a time: what is kept for the next position's letter is the last that has it. Assumes nothing.
-use Prim.Native.Nat.{ℕ, zero, suc, ◌+◌, ◌*◌, ◌/◌, ◌%◌, ◌<◌}
+use Prim.Native.Nat.{ℕ, zero, suc, ◌+◌, ◌*◌, ◌/◌, ◌%◌, ◌≤◌, ◌<◌}
 use mathlib.Core.Path.{◌≡◌, refl, sym, ap, ◌∙◌}
 use mathlib.Core.Logic.{⊎_elim, by_cases, ◌≢◌}
 use mathlib.Core.List.{List}
@@ -11,7 +11,9 @@ use lib.Seq.{get_or-set_same, get_or-set_other}
 use borrow.Author.Tests.{eq-eqb, ne_eqb}
 use Rattle.words.specs.Reads.{at, unread, letter_of, letter}
 use Rattle.words.proofs.Letters.{letter_is, letter_read, letter-unread, letters_tell}
-use Rattle.read_letters.specs.Seen.{latest, seen_with, Latest, Seen}
+use Rattle.std.specs.Prelude.{Some, None}
+use Rattle.std.proofs.lemmas.Option.{none-some, same_Some}
+use Rattle.read_letters.specs.Seen.{latest, seen_with, place_of, Latest, Seen}
 
 -- an even letter is not kept, an odd one is kept at its byte
 module _ (seen : List ℕ) (c : ℕ) where
@@ -30,6 +32,24 @@ module _ (seen : List ℕ) (c : ℕ) where
   pub with_odd : (i b : ℕ) → c / 2 ≡ b → c % 2 ≢ 0 → seen_with seen c i ≡ set seen b i
   unfolding seen_with
   with_odd i b half ne = rw (ne_eqb (c % 2) 0 ne, half)
+
+-- 0 is no position, and each other number is one
+pub place_none : (j : ℕ) → j ≡ 0 → place_of j ≡ None
+unfolding place_of
+place_none j e = rw (eq-eqb j 0 e)
+
+pub place_some : (j : ℕ) → j ≢ 0 → place_of j ≡ Some j
+unfolding place_of
+place_some j n = rw (ne_eqb j 0 n)
+
+pub some_place : (j l : ℕ) → Some l ≡ place_of j → (1 ≤ l) × (l ≡ j)
+some_place j l e =
+    by_cases (ℕ_discrete j 0)
+    (λ z. absurd (none-some l (sym (e ∙ place_none j z))))
+    (λ n. let s = same_Some l j (e ∙ place_some j n) in (omega (arith, s, n), s))
+
+pub no_place : (j : ℕ) → None ≡ place_of j → j ≡ 0
+no_place j e = by_cases (ℕ_discrete j 0) (λ z. z) (λ n. absurd (none-some j (e ∙ place_some j n)))
 
 -- an odd letter is that of its byte
 pub odd_half : (b i c : ℕ) → c ≡ letter_of b i → c % 2 ≢ 0 → c / 2 ≡ b
@@ -98,10 +118,14 @@ module _ (x seen : List ℕ) (i b : ℕ) (has : at x (i + 1) ≡ b) (S : Seen x 
             (λ n. rw (get_or-set_other seen b d (i + 1) 0 n) (latest_other x i (2 * d + 1) (get_or seen d 0) (λ q. n (omega (arith, q, here, r))) (S.last d)));
       })))
 
-  -- as `last_alike` promises both
-  pub seen_next : (l : ℕ) (seen' : List ℕ) → (l ≡ latest seen (letter_of b (i + 1))) × (seen' ≡ seen_with seen (letter_of b (i + 1)) (i + 1)) → b < 256
-      → Latest x i (letter x (i + 1)) l × Seen x (i + 1) seen'
-  seen_next l seen' e byte = (seen_last l e.0, seen_more seen' e.1 byte)
+  -- as `last_alike` promises both, where it finds a position and where it finds none
+  pub seen_some : (l : ℕ) (seen' : List ℕ) → (Some l ≡ place_of (latest seen (letter_of b (i + 1)))) × (seen' ≡ seen_with seen (letter_of b (i + 1)) (i + 1)) → b < 256
+      → (1 ≤ l) × Latest x i (letter x (i + 1)) l × Seen x (i + 1) seen'
+  seen_some l seen' e byte = let s = some_place _ l e.0 in (s.0, seen_last l s.1, seen_more seen' e.1 byte)
+
+  pub seen_none : (seen' : List ℕ) → (None ≡ place_of (latest seen (letter_of b (i + 1)))) × (seen' ≡ seen_with seen (letter_of b (i + 1)) (i + 1)) → b < 256
+      → Latest x i (letter x (i + 1)) 0 × Seen x (i + 1) seen'
+  seen_none seen' e byte = (seen_last 0 (sym (no_place _ e.0)), seen_more seen' e.1 byte)
 
 -- the byte of the next position, as the code reads it
 pub byte_is : (x : List ℕ) (i k : ℕ) → k ≡ i → at x (i + 1) ≡ get_or x k 0

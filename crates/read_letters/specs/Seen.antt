@@ -1,10 +1,14 @@
 -- The last position of each letter among the first positions of a read x, kept by the byte: only a base that was read can be met again.
-use Rattle.std.specs.Prelude.{ℕ, ◌+◌, ◌*◌, ◌/◌, ◌%◌, ◌≤◌, ◌<◌, ◌≡◌, ◌≢◌, cond, List, length, get_or, set, eqb}
+use Rattle.std.specs.Prelude.{ℕ, ◌+◌, ◌*◌, ◌/◌, ◌%◌, ◌≤◌, ◌<◌, ◌≡◌, ◌≢◌, cond, List, length, get_or, set, eqb, Option, Some, None}
 use Rattle.words.specs.Reads.{letter}
 
 -- the position that is kept for the letter c; an even one, of an unread base, has none
 unfoldable pub latest : List ℕ → ℕ → ℕ
 latest seen c = cond (eqb (c % 2) 0) 0 (get_or seen (c / 2) 0)
+
+-- a position, and none where 0 stands for it
+unfoldable pub place_of : ℕ → Option ℕ
+place_of j = cond (eqb j 0) None (Some j)
 
 -- i is kept for the letter c
 unfoldable pub seen_with : List ℕ → ℕ → ℕ → List ℕ

@@ -5,7 +5,7 @@
 
 ghost use Rattle.std.specs.Prelude.{◌≡◌, not, ◌&&◌, length, eqb};
 ghost use Rattle.words.specs.Reads.{unread, letter_of};
-ghost use Rattle.read_letters.specs.Seen.{latest, seen_with};
+ghost use Rattle.read_letters.specs.Seen.{latest, seen_with, place_of};
 
 // the byte that the sequencer writes where it could not tell: a capital N
 const UNREAD: u8 = 78;
@@ -20,27 +20,24 @@ fn letter(byte: u8, i: u16) -> usize
     2 * (byte as usize) + 1
 }
 
-// the last position before i that compares as i, which has this byte; 0 if there is none. From now on it is i. An unread base compares as no other: it
+// the last position before i that compares as i, which has this byte, if there is one. From now on it is i. An unread base compares as no other: it
 // neither finds one nor is found
-pub fn last_alike(seen: &mut [u16; 256], byte: u8, i: u16) -> u16
+pub fn last_alike(seen: &mut [u16; 256], byte: u8, i: u16) -> Option<u16>
     requires { length seen.old ≡ 256 }
-    ensures { (result ≡ latest seen.old (letter_of byte i)) × (seen.new ≡ seen_with seen.old (letter_of byte i) i) }
+    ensures { (result ≡ place_of (latest seen.old (letter_of byte i))) × (seen.new ≡ seen_with seen.old (letter_of byte i) i) }
 {
     if letter(byte, i) % 2 == 0 {
-        return 0;
+        return None;
     }
     let b = byte as usize; // half of an odd letter
     let l = seen[b];
     seen[b] = i;
-    l
+    if l == 0 { None } else { Some(l) }
 }
 
 // are the bases of two positions, which are not one, the same? An unread one is the same as no other
 pub fn same_base(a: u8, b: u8) -> bool
     ensures { result ≡ not (eqb a unread) && eqb a b }
 {
-    if a == UNREAD {
-        return false;
-    }
-    a == b
+    a != UNREAD && a == b
 }

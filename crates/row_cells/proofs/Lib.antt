@@ -1,4 +1,3 @@
 pub mod Stored
-pub mod Cleared
 pub mod Adding
 pub mod Listed

@@ -3,5 +3,5 @@ use Rattle.std.specs.Prelude.{ℕ, List}
 use Rattle.std.proofs.lemmas.List.Edits.{sets}
 
 -- a slice with the numbers v stored from index i on
-unfoldable pub stored : List ℕ → ℕ → List ℕ → List ℕ
+unfoldable pub stored : {X : Type 0} → List X → ℕ → List X → List X
 stored l i v = sets l i v

@@ -1,77 +1,42 @@
--- A line compared number by number with what stands at a place of the lines. Only this file and `Written` open a line for the code. Assumes nothing.
-use Prim.Native.Nat.{ℕ, suc, ◌+◌, ◌-◌, ◌≤◌, ◌<◌}
-use mathlib.Core.Path.{◌≡◌, sym, ap, ◌∙◌}
-use mathlib.Core.Logic.{⊎_elim, ◌≢◌}
-use mathlib.Core.Bool.{Bool, true, false}
+-- A line compared with what stands at a place of the lines: the code's test of three numbers is the test of two strings. Assumes nothing.
+use Prim.Native.Nat.{ℕ, ◌-◌, ◌≤◌, ◌<◌}
+use mathlib.Core.Path.{◌≡◌, refl, ap}
+use mathlib.Core.Logic.{⊎_elim}
+use mathlib.Core.Bool.{Bool, true, false, ◌&&◌}
 use mathlib.Core.List.{List, [], ◌∷◌}
 use native.Mathlib.Omega.{arith}
 use lib.ListN.{length, get_or, take, drop, length-take, length-drop}
-use lib.Seq.{drop-cons}
+use lib.Seq.{take_all}
 use lib.Dec.{eqb}
-use borrow.Author.Tests.{eqb-false, eq-eqb, ne_eqb}
+use Rattle.std.specs.Cmp.Lexicographic.{pointwise}
 use Rattle.words.specs.Reads.{same}
 use Rattle.words.specs.Lists.{line_of, line_size}
-use Rattle.words.proofs.Tests.{either, eqb-turn}
+use Rattle.words.proofs.Tests.{either}
 use Rattle.words.proofs.Stretches.{same_is}
 
-same-cons : (a b : ℕ) (u v : List ℕ) → a ≡ b → same (a ∷ u) (b ∷ v) ≡ same u v
+same_compares : (u v : List ℕ) → pointwise eqb u v ≡ same u v
 unfolding same
-same-cons a b u v e = rw (eq-eqb a b e, same)
+same_compares [] [] = refl
+same_compares [] (b ∷ v) = refl
+same_compares (a ∷ u) [] = refl
+same_compares (a ∷ u) (b ∷ v) =
+    elim (eqb a b) as (λ (t : Bool). t && pointwise eqb u v ≡ elim t [ true ↦ same u v | false ↦ false ]) [ true ↦ same_compares u v | false ↦ refl ]
 
-same_apart : (a b : ℕ) (u v : List ℕ) → a ≢ b → same (a ∷ u) (b ∷ v) ≡ false
-unfolding same
-same_apart a b u v ne = rw (ne_eqb a b ne, same)
+-- what is left of the lines from a place on
+pub rest_is : (l : List ℕ) (at : ℕ) → take (length l - at) (drop at l) ≡ drop at l
+rest_is l at = take_all (length l - at) (drop at l) (omega (arith, length-drop at l))
 
-next-cell : (l : List ℕ) (i : ℕ) → i < length l → drop i l ≡ get_or l i 0 ∷ drop (i + 1) l
-next-cell l i h =
-    let e : suc i ≡ i + 1 = omega arith in
-    drop-cons l i 0 h ∙ ap (λ (v : ℕ). get_or l i 0 ∷ drop v l) e
-
--- one number, asked the other way round
-turned : (a b : ℕ) → eqb a b ≡ same (b ∷ []) (a ∷ [])
-unfolding same
-turned a b =
-    ⊎_elim
-    (λ (t : eqb b a ≡ true). eqb-turn b a t ∙ rw (t, same))
-    (λ (t : eqb b a ≡ false). ne_eqb a b (λ q. eqb-false b a t (sym q)) ∙ rw (t, same))
-    (either (eqb b a))
-
-module _ (lines : List ℕ) (at i p e : ℕ) where
-  read_row : at + 3 ≤ length lines → take 3 (drop at lines) ≡ get_or lines at 0 ∷ get_or lines (at + 1) 0 ∷ get_or lines (at + 2) 0 ∷ []
-  read_row h =
-      let two : at + 1 + 1 ≡ at + 2 = omega arith in
-      let three : at + 2 + 1 ≡ at + 3 = omega arith in
-      let third : drop (at + 1 + 1) lines ≡ get_or lines (at + 2) 0 ∷ drop (at + 3) lines =
-      ap (λ (v : ℕ). drop v lines) two ∙ next-cell lines (at + 2) (omega arith) ∙ ap (λ (v : ℕ). get_or lines (at + 2) 0 ∷ drop v lines) three in
-      ap (take 3) (next-cell lines at (omega arith))
-      ∙ ap (λ (l : List ℕ). get_or lines at 0 ∷ take 2 l) (next-cell lines (at + 1) (omega arith))
-      ∙ ap (λ (l : List ℕ). get_or lines at 0 ∷ get_or lines (at + 1) 0 ∷ take 1 l) third
-
-  abbrev stands_there : Bool
-  stands_there = same (line_of i p e) (take line_size (drop at lines))
-
-  pub short_no : length lines - at < 3 → stands_there ≡ false
+module _ (i p e : ℕ) where
+  -- there are fewer than three numbers
+  pub line_short : (d : List ℕ) → length d < 3 → same (line_of i p e) (take line_size d) ≡ false
   unfolding line_of line_size
-  short_no h =
-      ⊎_elim
-      (λ t.
-      let q : 3 ≡ length (take 3 (drop at lines)) = ap length (same_is (i ∷ p ∷ e ∷ []) (take 3 (drop at lines)) t) in
-      absurd (omega (arith, q, length-take 3 (drop at lines), length-drop at lines)))
-      (λ t. t)
-      (either stands_there)
+  line_short d h =
+      ⊎_elim (λ t. absurd (omega (arith, ap length (same_is (i ∷ p ∷ e ∷ []) (take 3 d) t), length-take 3 d))) (λ t. t) (either (same (i ∷ p ∷ e ∷ []) (take 3 d)))
 
-  module _ (h : at + 3 ≤ length lines) where
-    pub start_no : get_or lines at 0 ≢ i → stands_there ≡ false
-    unfolding line_of line_size
-    start_no ne = rw (read_row h) (same_apart i (get_or lines at 0) _ _ (λ q. ne (sym q)))
-
-    module _ (q : get_or lines at 0 ≡ i) where
-      pub period_no : get_or lines (at + 1) 0 ≢ p → stands_there ≡ false
-      unfolding line_of line_size
-      period_no ne = rw (read_row h) (same-cons i (get_or lines at 0) _ _ (sym q) ∙ same_apart p (get_or lines (at + 1) 0) _ _ (λ r. ne (sym r)))
-
-      pub copies_tell : get_or lines (at + 1) 0 ≡ p → eqb (get_or lines (at + 2) 0) e ≡ stands_there
-      unfolding line_of line_size
-      copies_tell r =
-          rw (read_row h)
-          (turned (get_or lines (at + 2) 0) e ∙ sym (same-cons i (get_or lines at 0) _ _ (sym q) ∙ same-cons p (get_or lines (at + 1) 0) _ _ (sym r)))
+  -- there are three or more
+  pub line_told : (d : List ℕ) → 3 ≤ length d → eqb i (get_or d 0 0) && (eqb p (get_or d 1 0) && (eqb e (get_or d 2 0) && true)) ≡ same (line_of i p e) (take line_size d)
+  unfolding line_of line_size
+  line_told [] h = absurd (omega arith)
+  line_told (a ∷ []) h = absurd (omega arith)
+  line_told (a ∷ b ∷ []) h = absurd (omega arith)
+  line_told (a ∷ b ∷ c ∷ d) h = same_compares (i ∷ p ∷ e ∷ []) (a ∷ b ∷ c ∷ [])

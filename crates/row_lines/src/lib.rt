@@ -1,5 +1,6 @@
 // A line as the code has it: how many numbers it takes, which is which, a line written, and a line compared. No other code knows a line's layout.
-#![tactic(auto)]
+// One trait over this and `row_moves` and `row_runs` would be no plainer: each function is one call of `row_cells`, which is generic, with a line's size.
+#![tactic(auto, unfolding(words::specs::Rows::cell, words::specs::Lists::line_size, words::specs::Lists::line_of, words::specs::Lists::period_cell, words::specs::Lists::start_of, words::specs::Lists::period_of, words::specs::Lists::copies_of))]
 
 ghost use Rattle.std.specs.Prelude.{◌≡◌, ◌+◌, ◌≤◌, ◌<◌, length, take, drop};
 ghost use Rattle.words.specs.Rows.{rows};
@@ -66,14 +67,8 @@ pub fn is_line(lines: &[u16], at: usize, start: usize, period: usize, copies: us
     requires { at ≤ length lines.now }
     ensures { result ≡ same (line_of start period copies) (take line_size (drop at lines.now)) }
 {
-    if lines.len() - at < 3 {
-        return false;
+    match &lines[at..] {
+        [s, p, c, ..] => [start, period, copies] == [wide(*s), wide(*p), wide(*c)],
+        _ => false,
     }
-    if wide(lines[at]) != start {
-        return false;
-    }
-    if wide(lines[at + 1]) != period {
-        return false;
-    }
-    wide(lines[at + 2]) == copies
 }

@@ -1,5 +1,6 @@
 // A move as the code has it: how many numbers it takes, which is which, and a move written. No other code knows a move's layout.
-#![tactic(auto)]
+// One trait over this and `row_lines` and `row_runs` would be no plainer: each function is one call of `row_cells`, which is generic, with a move's size.
+#![tactic(auto, unfolding(words::specs::Rows::cell, words::specs::Moves::move_size, words::specs::Moves::move_of, words::specs::Moves::width_cell, words::specs::Moves::width_of, words::specs::Moves::name_of, words::specs::Moves::place_of))]
 
 ghost use Rattle.std.specs.Prelude.{◌≡◌, ◌+◌, ◌≤◌, ◌<◌, length};
 ghost use Rattle.words.specs.Rows.{rows};

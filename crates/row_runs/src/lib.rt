@@ -1,5 +1,6 @@
 // A run as the code has it: how many numbers it takes, which is which, and a run written. No other code knows a run's layout.
-#![tactic(auto)]
+// One trait over this and `row_lines` and `row_moves` would be no plainer: each function is one call of `row_cells`, which is generic, with a run's size.
+#![tactic(auto, unfolding(words::specs::Rows::cell, words_runs::specs::Runs::run_size, words_runs::specs::Runs::run_of, words_runs::specs::Runs::run_period_cell, words_runs::specs::Runs::run_start, words_runs::specs::Runs::run_end, words_runs::specs::Runs::run_period))]
 
 ghost use Rattle.std.specs.Prelude.{◌≡◌, ◌+◌, ◌≤◌, ◌<◌};
 ghost use Rattle.words.specs.Rows.{rows};

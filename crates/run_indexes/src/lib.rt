@@ -3,178 +3,161 @@
 
 ghost use Rattle.std.specs.Prelude.{◌≤◌};
 
-use run_prints::{answer, answer_both, number, slice, slice_wide, word};
-use words_index::Looked;
+use call_answers::{counted, list_indexed};
+use call_indexes::index;
+use call_list_indexes::list_index;
+use call_lookups::lookup;
+use run_prints::{answer_both, shown, slice};
+use std::io;
 
-fn list_index_on(read: &[u8], mode: u32, out: &mut [u16], index: &mut [u64]) {
-    word(b"list_index\n");
-    slice(out);
-    slice_wide(index);
-    answer_both(call_answers::list_indexed(call_list_indexes::list_index(read, mode, out, index)));
-    slice(out);
-    slice_wide(index);
+// the answer alone
+fn answer_on(
+    rt: &impl Print,
+    read: &[u8],
+    mode: u32,
+    out: &mut [u16],
+    index: &mut [u64],
+) -> io::Result<()> {
+    answer_both(rt, list_indexed(list_index(read, mode, out, index)))
 }
 
-fn index_on(list: &[u16], index: &mut [u64]) {
-    word(b"index\n");
-    slice_wide(index);
-    answer(call_answers::indexed(call_indexes::index(list, index)));
-    slice_wide(index);
+fn list_index_on(
+    rt: &impl Print,
+    read: &[u8],
+    mode: u32,
+    out: &mut [u16],
+    index: &mut [u64],
+) -> io::Result<()> {
+    println!(rt; "list_index")?;
+    slice(rt, out)?;
+    slice(rt, index)?;
+    answer_on(rt, read, mode, out, index)?;
+    slice(rt, out)?;
+    slice(rt, index)
 }
 
 // the same on so many sevens
-fn list_index_in(read: &[u8], mode: u32, room: usize, beside: usize)
+fn list_index_in(
+    rt: &impl Print,
+    read: &[u8],
+    mode: u32,
+    room: usize,
+    beside: usize,
+) -> io::Result<()>
     requires { (room ≤ 13) × (beside ≤ 16) }
 {
-    let mut out = [7u16; 13];
-    let mut index = [7u64; 16];
-    list_index_on(read, mode, &mut out[..room], &mut index[..beside]);
+    let mut out = [7; 13];
+    let mut index = [7; 16];
+    list_index_on(rt, read, mode, &mut out[..room], &mut index[..beside])
 }
 
-fn index_in(list: &[u16], beside: usize)
+fn index_in(rt: &impl Print, list: &[u16], beside: usize) -> io::Result<()>
     requires { beside ≤ 16 }
 {
-    let mut index = [7u64; 16];
-    index_on(list, &mut index[..beside]);
+    let out = &mut [7; 16][..beside];
+    shown(rt, "index", out, |out| counted(index(list, out)))
 }
 
-fn entry(place: usize, first: u64, lines: u64, largest: u64) {
-    word(b"entry");
-    number(place as u64);
-    number(first);
-    number(lines);
-    number(largest);
-    word(b"\n");
-}
-
-fn looked(a: Looked) {
-    match a {
-        Looked::Entry {
-            place,
-            first,
-            lines,
-            largest,
-        } => entry(place, first, lines, largest),
-        Looked::Nothing => word(b"none\n"),
+fn lookup_on(rt: &impl Print, index: &[u64], period: u64) -> io::Result<()> {
+    println!(rt; "lookup")?;
+    match lookup(index, period) {
+        Some(e) => println!(rt; "entry {} {} {} {}", e.place, e.first, e.lines, e.largest),
+        None => println!(rt; "none"),
     }
 }
 
-fn lookup_on(index: &[u64], period: u64) {
-    word(b"lookup\n");
-    looked(call_lookups::lookup(index, period));
+fn both(rt: &impl Print) -> io::Result<()> {
+    let calls = [
+        (0, 12, 16),
+        (0, 13, 15),
+        (0, 12, 12),
+        (0, 12, 11),
+        (0, 11, 16),
+        (0, 11, 11),
+        (2, 11, 3),
+    ];
+    for (mode, room, beside) in calls {
+        list_index_in(rt, b"ACAACACA", mode, room, beside)?;
+    }
+    Ok(())
 }
 
-fn both(read: &[u8]) {
-    list_index_in(read, 0, 12, 16);
-    list_index_in(read, 0, 13, 15);
-    list_index_in(read, 0, 12, 12);
-    list_index_in(read, 0, 12, 11);
-    list_index_in(read, 0, 11, 16);
-    list_index_in(read, 0, 11, 11);
-    list_index_in(read, 2, 11, 3);
-}
-
-fn both_short() {
-    list_index_in(b"AAAA", 0, 9, 8);
-    list_index_in(b"AAAA", 0, 9, 4);
-    list_index_in(b"AAAA", 0, 9, 3);
-    list_index_in(b"AAAA", 1, 4, 4);
-    list_index_in(b"", 0, 0, 0);
-    list_index_in(b"", 1, 2, 3);
+fn both_short(rt: &impl Print) -> io::Result<()> {
+    list_index_in(rt, b"AAAA", 0, 9, 8)?;
+    list_index_in(rt, b"AAAA", 0, 9, 4)?;
+    list_index_in(rt, b"AAAA", 0, 9, 3)?;
+    list_index_in(rt, b"AAAA", 1, 4, 4)?;
+    list_index_in(rt, b"", 0, 0, 0)?;
+    list_index_in(rt, b"", 1, 2, 3)
 }
 
 // reads with unread bases (document 02, item 2), and with a small n
-fn both_unread() {
-    list_index_in(b"ACACNACAC", 0, 6, 4);
-    list_index_in(b"ACACNACAC", 0, 6, 3);
-    list_index_in(b"NNNN", 0, 0, 0);
-    list_index_in(b"nnnn", 0, 9, 4);
-}
-
-fn whole(list: &[u16]) {
-    index_in(list, 13);
-    index_in(list, 12);
-    index_in(list, 11);
-    index_in(list, 0);
+fn both_unread(rt: &impl Print) -> io::Result<()> {
+    list_index_in(rt, b"ACACNACAC", 0, 6, 4)?;
+    list_index_in(rt, b"ACACNACAC", 0, 6, 3)?;
+    list_index_in(rt, b"NNNN", 0, 0, 0)?;
+    list_index_in(rt, b"nnnn", 0, 9, 4)
 }
 
 // R5's list, and parts of it
-fn lists() {
-    let list = [3u16, 1, 2, 4, 2, 2, 5, 2, 2, 1, 3, 2];
-    whole(&list[..]);
-    index_in(&list[..0], 0);
-    index_in(&list[..0], 3);
-    index_in(&list[..1], 4);
-    index_in(&list[..2], 4);
-    index_in(&list[..10], 16);
-    index_in(&list[..11], 0);
+fn lists(rt: &impl Print) -> io::Result<()> {
+    let list = [3, 1, 2, 4, 2, 2, 5, 2, 2, 1, 3, 2];
+    for beside in [13, 12, 11, 0] {
+        index_in(rt, &list, beside)?;
+    }
+    index_in(rt, &[], 0)?;
+    index_in(rt, &[], 3)?;
+    index_in(rt, &list[..1], 4)?;
+    index_in(rt, &list[..2], 4)?;
+    index_in(rt, &list[..10], 16)?;
+    index_in(rt, &list[..11], 0)
 }
 
 // equal neighbours, a period that falls, a start that falls, both with a cut line, and numbers that only their order is judged of
-fn loose() {
-    let equal = [3u16, 1, 2, 3, 1, 2];
-    index_in(&equal[..], 8);
-    let falls = [1u16, 2, 2, 5, 1, 2, 4];
-    index_in(&falls[..6], 8);
-    let starts = [5u16, 2, 2, 4, 2, 2];
-    index_in(&starts[..], 0);
-    index_in(&falls[..], 8);
-    let odd = [1u16, 0, 0, 9, 0, 65535, 1, 65535, 0];
-    index_in(&odd[..], 8);
+fn loose(rt: &impl Print) -> io::Result<()> {
+    let falls = [1, 2, 2, 5, 1, 2, 4];
+    index_in(rt, &[3, 1, 2, 3, 1, 2], 8)?;
+    index_in(rt, &falls[..6], 8)?;
+    index_in(rt, &[5, 2, 2, 4, 2, 2], 0)?;
+    index_in(rt, &falls, 8)?;
+    index_in(rt, &[1, 0, 0, 9, 0, u16::MAX, 1, u16::MAX, 0], 8)
 }
 
-fn own(index: &[u64]) {
-    lookup_on(index, 1);
-    lookup_on(index, 2);
-    lookup_on(index, 3);
-    lookup_on(index, 4);
-    lookup_on(index, 0);
+// every period of an index, and two that it has not
+fn own(rt: &impl Print, index: &[u64]) -> io::Result<()> {
+    for period in [1, 2, 3, 4, 0] {
+        lookup_on(rt, index, period)?;
+    }
+    Ok(())
 }
 
-fn lookups() {
-    let index = [1u64, 0, 1, 2, 2, 1, 2, 2, 3, 3, 1, 2];
-    own(&index[..]);
-    lookup_on(&index[..11], 3);
-    lookup_on(&index[..3], 1);
-    lookup_on(&index[..0], 0);
-    let twice = [2u64, 5, 6, 7, 2, 8, 9, 9, 3];
-    lookup_on(&twice[..], 2);
-    lookup_on(&twice[..], 3);
-    let most = [18446744073709551615u64, 1, 2, 18446744073709551615];
-    lookup_on(&most[..], 18446744073709551615);
-}
-
-// the answer alone
-fn long_on(read: &[u8], mode: u32, out: &mut [u16], index: &mut [u64]) {
-    answer_both(call_answers::list_indexed(call_list_indexes::list_index(read, mode, out, index)));
-}
-
-fn long_within(read: &[u8]) {
-    let mut out = [7u16; 2997];
-    let mut index = [7u64; 2000];
-    long_on(read, 0, &mut out[..], &mut index[..]);
-    let mut few = [7u64; 4];
-    long_on(read, 0, &mut out[..], &mut few[..]);
-    let mut two = [7u16; 2];
-    long_on(read, 1, &mut two[..], &mut few[..]);
+fn lookups(rt: &impl Print) -> io::Result<()> {
+    let index = [1, 0, 1, 2, 2, 1, 2, 2, 3, 3, 1, 2];
+    own(rt, &index)?;
+    lookup_on(rt, &index[..11], 3)?;
+    lookup_on(rt, &index[..3], 1)?;
+    lookup_on(rt, &[], 0)?;
+    let twice = [2, 5, 6, 7, 2, 8, 9, 9, 3];
+    lookup_on(rt, &twice, 2)?;
+    lookup_on(rt, &twice, 3)?;
+    lookup_on(rt, &[u64::MAX, 1, 2, u64::MAX], u64::MAX)
 }
 
 // 1,000 bytes pass, 1,001 give refusal 1 before any other
-fn limits() {
-    let within = [65u8; 1000];
-    long_within(&within[..]);
-    let over = [65u8; 1001];
-    let mut out = [7u16; 1];
-    let mut index = [7u64; 1];
-    long_on(&over[..], 2, &mut out[..], &mut index[..]);
+fn limits(rt: &impl Print) -> io::Result<()> {
+    let within = [b'A'; 1000];
+    answer_on(rt, &within, 0, &mut [7; 2997], &mut [7; 2000])?;
+    answer_on(rt, &within, 0, &mut [7; 2997], &mut [7; 4])?;
+    answer_on(rt, &within, 1, &mut [7; 2], &mut [7; 4])?;
+    answer_on(rt, &[b'A'; 1001], 2, &mut [7], &mut [7])
 }
 
-pub fn run() {
-    both(b"ACAACACA");
-    both_short();
-    both_unread();
-    lists();
-    loose();
-    lookups();
-    limits();
+pub fn run(rt: &impl Print) -> io::Result<()> {
+    both(rt)?;
+    both_short(rt)?;
+    both_unread(rt)?;
+    lists(rt)?;
+    loose(rt)?;
+    lookups(rt)?;
+    limits(rt)
 }

@@ -1,82 +1,53 @@
-// What the program that runs the calls prints: words, numbers, slices, and answers in the documents' numbers; and a read of every byte.
+// What the program that runs the calls prints: the numbers of slices, and answers in the documents' numbers; and a read of every byte.
 #![tactic(auto)]
 
+ghost use Rattle.std.specs.Prelude.{◌≡◌, ℕ, ◌<◌, slice_index_or};
+
 use call_answers::Answer;
-
-const STDOUT_FILENO: i32 = 1;
-
-pub fn word(text: &[u8]) {
-    io::write_all(STDOUT_FILENO, text);
-}
-
-pub fn number(x: u64) {
-    word(b" ");
-    io::print_decimal(STDOUT_FILENO, x);
-}
-
-fn wide(x: u16) -> u64 {
-    x as u64
-}
+use std::fmt::Display;
+use std::io;
 
 // the numbers of a slice
-pub fn slice(a: &[u16]) {
-    word(b"slice");
-    let mut i: usize = 0;
-    while i < a.len() {
-        number(wide(a[i]));
-        i += 1;
+pub fn slice<T: Display>(rt: &impl Print, numbers: &[T]) -> io::Result<()> {
+    print!(rt; "slice")?;
+    for x in numbers {
+        print!(rt; " {x}")?;
     }
-    word(b"\n");
-}
-
-fn wide_byte(x: u8) -> u64 {
-    x as u64
-}
-
-// the numbers of a slice of bytes
-pub fn slice_bytes(a: &[u8]) {
-    word(b"slice");
-    let mut i: usize = 0;
-    while i < a.len() {
-        number(wide_byte(a[i]));
-        i += 1;
-    }
-    word(b"\n");
+    println!(rt; "")
 }
 
 // an answer in the documents' numbers
-pub fn answer(a: Answer) {
-    word(b"answer");
-    number(a.number as u64);
-    number(a.value);
-    word(b"\n");
+pub fn answer(rt: &impl Print, a: Answer) -> io::Result<()> {
+    println!(rt; "answer {} {}", a.number, a.value)
 }
 
 // the same where a success returns two values
-pub fn answer_both(a: Answer) {
-    word(b"answer");
-    number(a.number as u64);
-    number(a.value);
-    number(a.more);
-    word(b"\n");
+pub fn answer_both(rt: &impl Print, a: Answer) -> io::Result<()> {
+    println!(rt; "answer {} {} {}", a.number, a.value, a.more)
 }
 
-// the numbers of an index's slice
-pub fn slice_wide(a: &[u64]) {
-    word(b"slice");
-    let mut i: usize = 0;
-    while i < a.len() {
-        number(a[i]);
-        i += 1;
-    }
-    word(b"\n");
+// a call that writes into a slice: the slice before, the answer, the slice after
+pub fn shown<T: Display, F: FnOnce(&mut [T]) -> Answer>(
+    rt: &impl Print,
+    name: &str,
+    out: &mut [T],
+    call: F,
+) -> io::Result<()>
+    requires { F.IsAlwaysCallable call }
+{
+    println!(rt; "{name}")?;
+    slice(rt, out)?;
+    answer(rt, call(out))?;
+    slice(rt, out)
 }
 
-// the bytes from 0 on
-pub fn count_up(read: &mut [u8]) {
-    let mut i: usize = 0;
-    while i < read.len() {
-        read[i] = (i % 256) as u8;
-        i += 1;
+// every byte there is
+pub fn every_byte() -> [u8; 256]
+    ensures { (k : ℕ) → k < 256 → slice_index_or result k 0 ≡ k }
+{
+    let mut read = [0; 256];
+    for k in 0..256 {
+        read[k] = k as u8;
     }
+    read
 }

@@ -4,47 +4,49 @@
 
 ghost use Rattle.std.specs.Prelude.{◌≤◌};
 
-use run_prints::{answer, slice, word};
-
-fn runs_on(read: &[u8], out: &mut [u16]) {
-    word(b"runs\n");
-    slice(out);
-    answer(call_answers::runs_listed(call_runs::runs(read, out)));
-    slice(out);
-}
+use call_answers::counted;
+use call_runs::runs;
+use run_prints::shown;
+use std::io;
 
 // on so many sevens
-fn runs_in(read: &[u8], room: usize)
+fn runs_in(rt: &impl Print, read: &[u8], room: usize) -> io::Result<()>
     requires { room ≤ 18 }
 {
-    let mut out = [7u16; 18];
-    runs_on(read, &mut out[..room]);
+    let out = &mut [7; 18][..room];
+    shown(rt, "runs", out, |out| counted(runs(read, out)))
 }
 
 // one run, and a list cut short; two runs of one period that overlap
-fn short() {
-    runs_in(b"ACACACA", 4);
-    runs_in(b"ACACACA", 3);
-    runs_in(b"ACACACA", 2);
-    runs_in(b"ACACACA", 0);
-    runs_in(b"AACAACCACC", 18);
-    runs_in(b"AACAACCACC", 17);
-    runs_in(b"AAAA", 5);
-    runs_in(b"NNNN", 0);
-    runs_in(b"", 2);
+fn short(rt: &impl Print) -> io::Result<()> {
+    let calls: [(&[u8], usize); 9] = [
+        (b"ACACACA", 4),
+        (b"ACACACA", 3),
+        (b"ACACACA", 2),
+        (b"ACACACA", 0),
+        (b"AACAACCACC", 18),
+        (b"AACAACCACC", 17),
+        (b"AAAA", 5),
+        (b"NNNN", 0),
+        (b"", 2),
+    ];
+    for (read, room) in calls {
+        runs_in(rt, read, room)?;
+    }
+    Ok(())
 }
 
 // 1,000 bytes pass; 1,001 give refusal 1 and leave the slice, where there is room and, before refusal 3, where there is none
-fn limits() {
-    let within = [65u8; 1000];
-    runs_in(&within[..], 3);
-    runs_in(&within[..], 2);
-    let over = [65u8; 1001];
-    runs_in(&over[..], 4);
-    runs_in(&over[..], 2);
+fn limits(rt: &impl Print) -> io::Result<()> {
+    let within = [b'A'; 1000];
+    runs_in(rt, &within, 3)?;
+    runs_in(rt, &within, 2)?;
+    let over = [b'A'; 1001];
+    runs_in(rt, &over, 4)?;
+    runs_in(rt, &over, 2)
 }
 
-pub fn run() {
-    short();
-    limits();
+pub fn run(rt: &impl Print) -> io::Result<()> {
+    short(rt)?;
+    limits(rt)
 }

@@ -4,61 +4,55 @@
 
 ghost use Rattle.std.specs.Prelude.{◌≤◌};
 
-use run_prints::{answer, slice, word};
+use call_answers::counted;
+use lister::{group_table, list, log, replay};
+use run_prints::shown;
+use std::io;
 
-fn list_on(read: &[u8], mode: u32, out: &mut [u16]) {
-    word(b"list\n");
-    slice(out);
-    answer(call_answers::listed(lister::list(read, mode, out)));
-    slice(out);
-}
-
-fn table_on(read: &[u8], width: u32, out: &mut [u16]) {
-    word(b"table\n");
-    slice(out);
-    answer(call_answers::tabled(lister::group_table(read, width, out)));
-    slice(out);
-}
-
-fn log_on(read: &[u8], out: &mut [u16]) {
-    word(b"log\n");
-    slice(out);
-    answer(call_answers::logged(lister::log(read, out)));
-    slice(out);
-}
-
-fn replay_on(read: &[u8], log: &[u16], width: u32, out: &mut [u16]) {
-    word(b"replay\n");
-    slice(out);
-    answer(call_answers::replayed(lister::replay(read, log, width, out)));
-    slice(out);
-}
-
-// on so many sevens
-pub fn list_in(read: &[u8], mode: u32, room: usize)
+// `list` on so many sevens
+pub fn list_in(rt: &impl Print, read: &[u8], mode: u32, room: usize) -> io::Result<()>
     requires { room ≤ 14 }
 {
-    let mut out = [7u16; 14];
-    list_on(read, mode, &mut out[..room]);
+    let out = &mut [7; 14][..room];
+    shown(rt, "list", out, |out| counted(list(read, mode, out)))
 }
 
-pub fn table_in(read: &[u8], width: u32, room: usize)
+// `group_table`
+pub fn table_in(rt: &impl Print, read: &[u8], width: u32, room: usize) -> io::Result<()>
     requires { room ≤ 257 }
 {
-    let mut out = [7u16; 257];
-    table_on(read, width, &mut out[..room]);
+    let out = &mut [7; 257][..room];
+    shown(
+        rt,
+        "table",
+        out,
+        |out| counted(group_table(read, width, out)),
+    )
 }
 
-pub fn log_in(read: &[u8], room: usize)
+// `log`
+pub fn log_in(rt: &impl Print, read: &[u8], room: usize) -> io::Result<()>
     requires { room ≤ 6885 }
 {
-    let mut out = [7u16; 6885];
-    log_on(read, &mut out[..room]);
+    let out = &mut [7; 6885][..room];
+    shown(rt, "log", out, |out| counted(log(read, out)))
 }
 
-pub fn replay_in(read: &[u8], log: &[u16], width: u32, room: usize)
+// `replay`
+pub fn replay_in(
+    rt: &impl Print,
+    read: &[u8],
+    log: &[u16],
+    width: u32,
+    room: usize,
+) -> io::Result<()>
     requires { room ≤ 9 }
 {
-    let mut out = [7u16; 9];
-    replay_on(read, log, width, &mut out[..room]);
+    let out = &mut [7; 9][..room];
+    shown(
+        rt,
+        "replay",
+        out,
+        |out| counted(replay(read, log, width, out)),
+    )
 }

@@ -26,7 +26,7 @@ pub extern "C" fn sorunggyeo_list(read: &[u8], mode: u32, list: &mut [u16]) -> A
     ensures { (result ≡ plain (list_answer read.now mode list.old))
         × (list.new ≡ list_leaves read.now mode list.old) }
 {
-    call_answers::listed(call_lists::list(read, mode, list))
+    call_answers::counted(call_lists::list(read, mode, list))
 }
 
 // The runs, with the partial copy.
@@ -35,7 +35,7 @@ pub extern "C" fn sorunggyeo_runs(read: &[u8], runs: &mut [u16]) -> Answer
     ensures { (result ≡ plain (runs_answer read.now runs.old))
         × (runs.new ≡ runs_leaves read.now runs.old) }
 {
-    call_answers::runs_listed(call_runs::runs(read, runs))
+    call_answers::counted(call_runs::runs(read, runs))
 }
 
 #[unsafe(no_mangle)]
@@ -43,7 +43,7 @@ pub extern "C" fn sorunggyeo_group_table(read: &[u8], width: u32, table: &mut [u
     ensures { (result ≡ plain (table_answer read.now width table.old))
         × (table.new ≡ table_leaves read.now width table.old) }
 {
-    call_answers::tabled(call_tables::group_table(read, width, table))
+    call_answers::counted(call_tables::group_table(read, width, table))
 }
 
 #[unsafe(no_mangle)]
@@ -51,7 +51,7 @@ pub extern "C" fn sorunggyeo_log(read: &[u8], log: &mut [u16]) -> Answer
     ensures { (result ≡ plain (log_answer read.now log.old))
         × (log.new ≡ log_leaves read.now log.old) }
 {
-    call_answers::logged(call_logs::log(read, log))
+    call_answers::counted(call_logs::log(read, log))
 }
 
 #[unsafe(no_mangle)]
@@ -64,7 +64,7 @@ pub extern "C" fn sorunggyeo_replay(
     ensures { (result ≡ plain (replay_answer read.now log.now width table.old))
         × (table.new ≡ replay_leaves read.now log.now width table.old) }
 {
-    call_answers::replayed(call_replays::replay(read, log, width, table))
+    call_answers::counted(call_replays::replay(read, log, width, table))
 }
 
 // The verdict and the number told with it.
@@ -89,7 +89,7 @@ pub extern "C" fn sorunggyeo_find_primer(read: &[u8], primer: &[u8], places: &mu
     ensures { (result ≡ plain (find_answer read.now primer.now places.old))
         × (places.new ≡ find_leaves read.now primer.now places.old) }
 {
-    call_answers::placed(call_primers::find_primer(read, primer, places))
+    call_answers::counted(call_primers::find_primer(read, primer, places))
 }
 
 // The reverse complement of a primer.
@@ -98,7 +98,7 @@ pub extern "C" fn sorunggyeo_reverse_complement(primer: &[u8], letters: &mut [u8
     ensures { (result ≡ plain (turn_answer primer.now letters.old))
         × (letters.new ≡ turn_leaves primer.now letters.old) }
 {
-    call_answers::turned(call_primers::reverse_complement(primer, letters))
+    call_answers::counted(call_primers::reverse_complement(primer, letters))
 }
 
 // The score of a read by a marker: its copies, and how many more than the reference they are.
@@ -159,7 +159,7 @@ pub extern "C" fn sorunggyeo_index(list: &[u16], index: &mut [u64]) -> Answer
     ensures { (result ≡ plain (index_answer list.now index.old))
         × (index.new ≡ index_leaves list.now index.old) }
 {
-    call_answers::indexed(call_indexes::index(list, index))
+    call_answers::counted(call_indexes::index(list, index))
 }
 
 // A period looked up.

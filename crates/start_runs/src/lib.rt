@@ -14,17 +14,16 @@ use row_runs::add_run;
 use slots::load;
 
 // is there no start just before i?
+#[tactic(auto, unfolding(crate::specs::Runs::first_in))]
 fn first_at(dist: &[u16; 1000], p: u16, i: u16) -> bool
     requires { (1 ≤ i) × (i ≤ 1000) }
     ensures { result ≡ first_in dist.now p i }
 {
-    if i <= 1 {
-        return true;
-    }
-    load(dist, i - 1) != p
+    i <= 1 || load(dist, i - 1) != p
 }
 
 // the last of the starts that stand side by side from the start i on
+// It stays a `while`: what is read just after a place says whether to go on, which an iterator makes no plainer.
 fn last_at(dist: &[u16; 1000], p: u16, i: u16) -> u16
     requires { Near p dist.now × (1 ≤ i) × (i ≤ 1000) × (at dist.now i ≡ p) }
     ensures { (result ≡ last_in dist.now p i) × (result + p ≤ 1000) }

@@ -1,26 +1,21 @@
--- A set that is emptied from its least place on: between two places that are taken one after the other there is none, and each turn gets further.
+-- A set that is emptied from its least place on: between two places that are taken one after the other there is none, and each turn leaves fewer.
 -- Assumes nothing.
 use Prim.Native.Nat.{ℕ, ◌+◌, ◌-◌, ◌≤◌, ◌<◌}
-use mathlib.Core.Path.{◌≡◌, refl, sym, ◌∙◌}
+use mathlib.Core.Path.{◌≡◌, refl, sym, ap, ◌∙◌}
 use mathlib.Core.Logic.{by_cases, ⊎_elim}
-use mathlib.Core.Bool.{cond}
-use mathlib.Core.List.{List, []}
+use mathlib.Core.List.{List, [], ◌++◌}
 use native.Mathlib.Decide.{ℕ_discrete}
 use native.Mathlib.Omega.{arith}
 use lib.ListN.{length}
-use lib.Dec.{ltb}
-use borrow.Author.Tests.{lt-ltb, le-ltb}
+use Rattle.std.specs.Prelude.{sum}
+use Rattle.std.proofs.lemmas.List.Sums.{sum_by-set}
 use Rattle.words.specs.Range.{gather}
 use Rattle.words.specs.Reads.{at}
-use Rattle.words.proofs.Ranges.{gather_stop}
+use Rattle.words.proofs.Ranges.{gather_stop, gather-next}
 use Rattle.words.proofs.Tests.{lt_or_ge}
-use Rattle.slots.specs.Slots.{put_some}
-use Rattle.slots.proofs.Laws.{some-length, some_same, some_other}
+use Rattle.slots.specs.Slots.{put}
+use Rattle.slots.proofs.Laws.{put-length, put_same, put_other}
 use Rattle.step2_bits.specs.Sets.{Empty, First}
-
--- how many places are done when s is taken: those before it, and all if it is 0, which stands for none
-unfoldable pub done : ℕ → ℕ
-done s = cond (ltb 0 s) (s - 1) 1000
 
 -- g has the places of f after m, and no other
 pub record After (f : List ℕ) (m : ℕ) (g : List ℕ) : Type 0 where
@@ -28,72 +23,55 @@ pub record After (f : List ℕ) (m : ℕ) (g : List ℕ) : Type 0 where
   pub gone : (i : ℕ) → 1 ≤ i → i ≤ m → i ≤ 1000 → at g i ≡ 0
   pub rest : (i : ℕ) → m < i → i ≤ 1000 → at g i ≡ at f i
 
--- s is taken, a place of f or 0 for none, and g has the places of f after it
-pub record Taken (f : List ℕ) (s : ℕ) (g : List ℕ) : Type 0 where
-  pub high : s ≤ 1000
-  pub some : 1 ≤ s → at f s ≡ 1
-  pub after : After f (done s + 1) g
-
-pub done-some : (s : ℕ) → 1 ≤ s → done s + 1 ≡ s
-unfolding done
-done-some s h = rw (lt-ltb 0 s h) (omega arith)
-
-pub done_none : (s : ℕ) → s ≡ 0 → done s ≡ 1000
-unfolding done
-done_none s e = rw (le-ltb 0 s (omega arith))
-
-pub done_high : (s : ℕ) → s ≤ 1000 → done s ≤ 1000
-done_high s h = ⊎_elim (λ l. omega (arith, done-some s l)) (λ l. omega (arith, done_none s (omega arith))) (lt_or_ge 0 s)
-
 -- none is taken yet
 pub after_none : (f : List ℕ) → length f ≡ 1000 → After f 0 f
 after_none f e = record { long = e; gone = λ i a b c. absurd (omega arith); rest = λ i a b. refl }
 
 -- the next is taken once those up to m are
-module _ (f : List ℕ) (m : ℕ) (g : List ℕ) (A : After f m g) (inside : m ≤ 1000) (s : ℕ) (F : First g s) where
-  pub done_on : m ≤ done s
-  done_on =
-      ⊎_elim
-      (λ l. ⊎_elim (λ h. omega (arith, done-some s l)) (λ h. absurd (omega (arith, F.some l, A.gone s l h F.high))) (lt_or_ge m s))
-      (λ l. omega (arith, done_none s (omega arith)))
-      (lt_or_ge 0 s)
+module _ (f : List ℕ) (m : ℕ) (g : List ℕ) (A : After f m g) (s : ℕ) (low : 1 ≤ s) (F : First g s) where
+  pub taken_on : m < s
+  taken_on = ⊎_elim (λ l. l) (λ h. absurd (omega (arith, F.some low, A.gone s low h F.high))) (lt_or_ge m s)
 
-  before : (i : ℕ) → 1 ≤ i → i ≤ 1000 → (1 ≤ s → i < s) → at g i ≡ 0
-  before i a b c = ⊎_elim (λ l. F.below i a (c l)) (λ l. (F.none (omega arith)).none i a b) (lt_or_ge 0 s)
+  pub between : (i : ℕ) → m < i → i < s → at f i ≡ 0
+  between i a b = sym (A.rest i a (omega (arith, b, F.high))) ∙ F.below i (omega arith) b
 
-  pub between : (i : ℕ) → m < i → i ≤ done s → at f i ≡ 0
-  between i a b =
-      let c : i ≤ 1000 = omega (arith, done_high s F.high) in
-      sym (A.rest i a c) ∙ before i (omega arith) c (λ l. omega (arith, done-some s l))
+  pub taken-is : at f s ≡ 1
+  taken-is = sym (A.rest s taken_on F.high) ∙ F.some low
 
   -- what is gathered at the places of f only
-  pub gather_on : (h : ℕ → List ℕ) → ((i : ℕ) → 1 ≤ i → i ≤ 1000 → at f i ≡ 0 → h i ≡ []) → gather h (done s) 1 ≡ gather h m 1
-  gather_on h none = gather_stop h m (done s) 1 done_on (λ i a b. none i (omega arith) (omega (arith, done_high s F.high)) (between i (omega arith) (omega arith)))
+  module _ (h : ℕ → List ℕ) (none : (i : ℕ) → 1 ≤ i → i ≤ 1000 → at f i ≡ 0 → h i ≡ []) where
+    pub gather_before : gather h (s - 1) 1 ≡ gather h m 1
+    gather_before =
+        gather_stop h m (s - 1) 1 (omega (arith, taken_on))
+        (λ i a b. none i (omega arith) (omega (arith, b, F.high)) (between i (omega arith) (omega (arith, b))))
 
-  pub taken : (h : List ℕ) → h ≡ put_some g s 0 → Taken f s h
+    pub gather_on : gather h s 1 ≡ gather h m 1 ++ h s
+    gather_on =
+        let e : s - 1 + 1 ≡ s = omega arith in
+        (rw e at (gather-next h (s - 1))) ∙ ap (λ (l : List ℕ). l ++ h s) gather_before
+
+  pub taken : (h : List ℕ) → h ≡ put g s 0 → After f s h
   taken h e =
       rw e
       (record {
-        high = F.high;
-        some = λ l. sym (A.rest s (omega (arith, done_on, done-some s l)) F.high) ∙ F.some l;
-        after = record {
-          long = some-length g s 0 ∙ A.long;
-          gone = λ i a b c.
-              by_cases (ℕ_discrete i s)
-              (λ d. rw d (some_same g s 0 (omega arith) (omega (arith, A.long, F.high))))
-              (λ d. some_other g s 0 i a d ∙ before i a c (λ l. omega (arith, done-some s l, d)));
-          rest = λ i a b. some_other g s 0 i (omega arith) (λ d. omega (arith, done-some s (omega (arith, a, d)), a, d)) ∙ A.rest i (omega (arith, done_on)) b;
-        };
+        long = put-length g s 0 ∙ A.long;
+        gone = λ i a b c.
+            by_cases (ℕ_discrete i s)
+            (λ d. rw d (put_same g s 0 low (omega (arith, A.long, F.high))))
+            (λ d. put_other g s 0 i low a d ∙ F.below i a (omega (arith, b, d)));
+        rest = λ i a b. put_other g s 0 i low (omega arith) (λ d. omega (arith, a, d)) ∙ A.rest i (omega (arith, taken_on, a)) b;
       })
 
-module _ (f : List ℕ) (s : ℕ) (g : List ℕ) (T : Taken f s g) where
-  -- no more is left
-  pub taken_empty : s ≡ 0 → Empty g
-  taken_empty e = record { none = λ i a b. T.after.gone i a (omega (arith, done_none s e)) b }
+-- no more is left once those up to m are taken
+module _ (f : List ℕ) (m : ℕ) (g : List ℕ) (A : After f m g) (inside : m ≤ 1000) (E : Empty g) where
+  pub ended : (i : ℕ) → m < i → i ≤ 1000 → at f i ≡ 0
+  ended i a b = sym (A.rest i a b) ∙ E.none i (omega arith) b
 
-  pub taken_inside : 1 ≤ s → done s + 1 ≤ 1000
-  taken_inside l = omega (arith, T.high, done-some s l)
+  pub gather_all : (h : ℕ → List ℕ) → ((i : ℕ) → 1 ≤ i → i ≤ 1000 → at f i ≡ 0 → h i ≡ []) → gather h m 1 ≡ gather h 1000 1
+  gather_all h none = sym (gather_stop h m 1000 1 inside (λ i a b. none i (omega arith) (omega arith) (ended i (omega arith) (omega arith))))
 
-  -- a loop gets to its end
-  pub taken_less : 1 ≤ s → (r : ℕ) → First g r → 1000 - done r < 1000 - done s
-  taken_less l r F = omega (arith, done_on f (done s + 1) g T.after (taken_inside l) r F, done_high r F.high)
+-- a loop gets to its end: how many places are left
+pub taken_less : (g : List ℕ) → length g ≡ 1000 → (s : ℕ) → 1 ≤ s → First g s → (h : List ℕ) → h ≡ put g s 0 → sum h < sum g
+unfolding put at
+taken_less g l s low F h e =
+    rw e (omega (arith, sum_by-set (λ (x : ℕ). x) g (s - 1) 0 0 (omega (arith, l, F.high)), F.some low))

@@ -1,5 +1,5 @@
 pub mod Flags
 pub mod Once
-pub mod Places
+pub mod Words
 pub mod None
 pub mod Emptying

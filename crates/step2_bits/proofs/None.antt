@@ -1,4 +1,4 @@
--- A new array holds no place. Assumes nothing.
+-- 17 words of zero hold no place. Assumes nothing.
 use Prim.Native.Nat.{ℕ, ◌-◌, ◌/◌, ◌%◌, ◌<◌}
 use mathlib.Core.Path.{◌≡◌, ap, ◌∙◌}
 use native.Mathlib.Omega.{arith}

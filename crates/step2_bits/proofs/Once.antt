@@ -1,7 +1,8 @@
--- Two sets with the same places are the same words, bit by bit. Assumes nothing.
+-- Two sets with the same places are the same words, bit by bit, and so the same value. Assumes nothing.
 use Prim.Native.Nat.{ℕ, ◌+◌, ◌-◌, ◌*◌, ◌/◌, ◌%◌, ◌<◌, min}
 use mathlib.Core.Path.{◌≡◌, sym, ap, ap₂, ◌∙◌}
 use mathlib.Core.Logic.{⊎_elim}
+use mathlib.Core.HLevel.{is_prop→PathP}
 use mathlib.Core.List.{List}
 use native.Mathlib.Omega.{arith}
 use lib.ListN.{get_or}
@@ -10,7 +11,8 @@ use Rattle.words.specs.Reads.{at}
 use Rattle.words.proofs.Tests.{lt_or_ge}
 use Rattle.bits.specs.Bits.{bit}
 use Rattle.bits.proofs.Digits.{bits_same}
-use Rattle.step2_bits.specs.Sets.{flag, flags, Sound}
+use Rattle.step2_bits.specs.Sets.{flag, flags, Sound, Sound-prop}
+use Rattle.step2_bits.specs.declared.Places.{Places}
 use Rattle.step2_bits.proofs.Flags.{flags-at}
 
 module _ (a : List ℕ) (c j : ℕ) (h : j < 64) where
@@ -46,3 +48,8 @@ module _ (a b : List ℕ) (A : Sound a) (B : Sound b) (same : flags a ≡ flags 
       (λ c l.
       let m : c < 17 = rw A.long at l in
       ⊎_elim (λ h. word_same c h) (λ h. let e : c ≡ 16 = omega arith in rw e last_same) (lt_or_ge c 16))
+
+pub places_once : (p q : Places) → flags p.words ≡ flags q.words → p ≡ q
+places_once p q e =
+    let same : p.words ≡ q.words = sound_once p.words q.words p.sound q.sound e in
+    λ i. record { words = same i; sound = is_prop→PathP (λ j. Sound (same j)) (λ j. Sound-prop (same j)) p.sound q.sound i }

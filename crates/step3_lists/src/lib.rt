@@ -8,12 +8,12 @@ ghost use Rattle.std.specs.Prelude.{◌≡◌, cond, [], ◌∷◌, suc, ◌≤�
 ghost use Rattle.words.specs.Reads.{at};
 ghost use Rattle.slots.specs.Slots.{put};
 ghost use Rattle.step1_rows.specs.Rows.{row, Long, Only, DIST, HEAD, AFTER};
-ghost use Rattle.step2_bits.specs.Sets.{flags, Sound};
+ghost use Rattle.step2_bits.specs.Sets.{flags};
 ghost use Rattle.step3_lists.specs.Waits.{Waiting};
 ghost use Rattle.step3_lists.specs.Filed.{Heads, filed_at, released_at, Changed, Marked};
 
 use step1_rows::{AFTER, DIST, HEAD, load, store};
-use step2_bits::mark;
+use step2_bits::Places;
 
 // i, which is on no list, is put first on the list of d
 pub fn file(a: &mut [[u16; 1000]; 12], i: u16, d: u16)
@@ -40,15 +40,15 @@ pub fn change(a: &mut [[u16; 1000]; 12], w: u16, i: u16, d: u16)
 }
 
 // i leaves the list of w: if its distance is w it is one of the set, and if it is above w it waits on
-fn release(set: &mut [u64; 17], a: &mut [[u16; 1000]; 12], w: u16, i: u16)
-    requires { Heads a.old × Sound set.old × (1 ≤ i) × (i ≤ 1000) × (at (row a.old DIST) i ≤ 1000) }
-    ensures { (a.new ≡ released_at a.old w i) × Sound set.new
-        × (flags set.new ≡ cond (eqb (at (row a.old DIST) i) w) (put (flags set.old) i 1) (flags set.old)) }
+fn release(set: &mut Places, a: &mut [[u16; 1000]; 12], w: u16, i: u16)
+    requires { Heads a.old × (1 ≤ i) × (i ≤ 1000) × (at (row a.old DIST) i ≤ 1000) }
+    ensures { (a.new ≡ released_at a.old w i)
+        × (flags set.new.words ≡ cond (eqb (at (row a.old DIST) i) w) (put (flags set.old.words) i 1) (flags set.old.words)) }
 {
     let d = load(a, DIST, i);
     store(a, AFTER, i, 0);
     if d == w {
-        mark(set, i);
+        set.mark(i);
     } else {
         if w < d {
             file(a, i, d);
@@ -57,10 +57,10 @@ fn release(set: &mut [u64; 17], a: &mut [[u16; 1000]; 12], w: u16, i: u16)
 }
 
 // the list of w is emptied at width w: the positions of distance w join the set, and those of a larger distance wait on
-pub fn pass(set: &mut [u64; 17], a: &mut [[u16; 1000]; 12], w: u16)
-    requires { Long a.old × Waiting w a.old × Sound set.old × (1 ≤ w) × (w ≤ 1000) }
+pub fn pass(set: &mut Places, a: &mut [[u16; 1000]; 12], w: u16)
+    requires { Long a.old × Waiting w a.old × (1 ≤ w) × (w ≤ 1000) }
     ensures { Long a.new × Only (HEAD ∷ AFTER ∷ []) a.old a.new × Waiting (suc w) a.new
-        × Sound set.new × Marked (row a.old DIST) w (flags set.old) (flags set.new) }
+        × Marked (row a.old DIST) w (flags set.old.words) (flags set.new.words) }
 {
     let mut h = load(a, HEAD, w);
     store(a, HEAD, w, 0);

@@ -27,7 +27,7 @@ use Rattle.read_letters.proofs.Kept.{seen_start}
 use Rattle.read_letters.proofs.Joins.{last_joined, last_free, last_none}
 use Rattle.step1_rows.specs.Rows.{row, put_at, Long, NAME, SIZE, PREV, DIST, HEAD, AFTER, TAIL}
 use Rattle.step1_rows.proofs.Laws.{row_same, row_other, long-put}
-use Rattle.step2_bits.specs.Sets.{flags, Sound, Empty}
+use Rattle.step2_bits.specs.Sets.{flags, Empty}
 use Rattle.step2_bits.proofs.Flags.{flags-length}
 use Rattle.step3_lists.specs.Filed.{Listed}
 use Rattle.step3_lists.proofs.Filing.{lists_none}
@@ -45,11 +45,10 @@ pub record Begun (x seen : List ℕ) (a : List (List ℕ)) (small : List ℕ) (i
   pub met : Seen x i seen
   pub lists : Listed a
   pub tails : Clean (row a TAIL)
-  pub sound : Sound small
 
 -- no position is done
-pub begun_start : (a : List (List ℕ)) → Blank a → (x small : List ℕ) → Sound small → Empty (flags small) → Begun x (replicate 256 0) a small 0
-begun_start a B x small S E =
+pub begun_start : (a : List (List ℕ)) → Blank a → (x small : List ℕ) → Empty (flags small) → Begun x (replicate 256 0) a small 0
+begun_start a B x small E =
     let clean : (r : ℕ) → r < 12 → Clean (row a r) = λ r h. record { long = B.long.each r h; none = λ i l m. B.none r i h l m } in
     record {
       long = B.long;
@@ -65,7 +64,6 @@ begun_start a B x small S E =
           (λ i p. B.none HEAD i (omega arith) p.0 p.1)
           (λ i p. B.none AFTER i (omega arith) p.0 p.1);
       tails = clean TAIL (omega arith);
-      sound = S;
     }
 
 -- l is the last of the first i positions that has the letter of the next one, and seen' is kept after that one
@@ -127,8 +125,8 @@ module _ (x seen seen' : List ℕ) (a : List (List ℕ)) (small : List ℕ) (i l
 
   -- the next position is done: its name is s
   begun_more : (a' : List (List ℕ)) (small' : List ℕ) (s : ℕ) → at t (i + 1) ≡ s → 1 ≤ s → s ≤ 1000 → Joined a a' l (i + 1) s
-      → Sound small' → flags small' ≡ put (flags small) (i + 1) (bit (eqb s (i + 1))) → Begun x seen' a' small' (i + 1)
-  begun_more a' small' s is low high J S F =
+      → flags small' ≡ put (flags small) (i + 1) (bit (eqb s (i + 1))) → Begun x seen' a' small' (i + 1)
+  begun_more a' small' s is low high J F =
       record {
         long = J.long;
         names = rw J.name (filled_more _ i _ s B.names (omega arith) (sym is));
@@ -144,7 +142,6 @@ module _ (x seen seen' : List ℕ) (a : List (List ℕ)) (small : List ℕ) (i l
         met = kept;
         lists = J.lists;
         tails = rw J.tail B.tails;
-        sound = S;
       }
 
   -- the next position joins the group of l
@@ -177,12 +174,12 @@ module _ (x seen seen' : List ℕ) (a : List (List ℕ)) (small : List ℕ) (i l
         let s = at (row a NAME) l in
         let w = named-within in
         let flag = B.flagged.beyond (i + 1) (omega arith) (omega arith) ∙ sym (ap bit (ne_eqb s (i + 1) (λ e. omega (arith, e, w.1)))) in
-        begun_more a' small s named w.0 (omega (arith, w.1)) J B.sound (sym (put_held (flags small) (i + 1) (bit (eqb s (i + 1))) flag))
+        begun_more a' small s named w.0 (omega (arith, w.1)) J (sym (put_held (flags small) (i + 1) (bit (eqb s (i + 1))) flag))
 
   -- the next position is the first of its group
-  pub begun_first : (small' : List ℕ) → l ≡ 0 → Sound small' → flags small' ≡ put (flags small) (i + 1) 1
+  pub begun_first : (small' : List ℕ) → l ≡ 0 → flags small' ≡ put (flags small) (i + 1) 1
       → Begun x seen' (put_at (put_at a NAME (i + 1) (i + 1)) SIZE (i + 1) 1) small' (i + 1)
-  begun_first small' none S flag =
+  begun_first small' none flag =
       let j = i + 1 in
       let f = put_at a NAME j j in
       let g = put_at f SIZE j 1 in
@@ -202,7 +199,7 @@ module _ (x seen seen' : List ℕ) (a : List (List ℕ)) (small : List ℕ) (i l
         tail = kept TAIL refl refl;
         lists = rw (kept DIST refl refl, kept HEAD refl refl, kept AFTER refl refl) B.lists;
       })
-      S (flag ∙ rw (eq-eqb j j refl) refl)
+      (flag ∙ rw (eq-eqb j j refl) refl)
 
 -- every position is done
 pub begun-end : (x seen : List ℕ) (a : List (List ℕ)) (small : List ℕ) (n : ℕ) → length x ≡ n → n ≤ 1000 → Begun x seen a small n → Began x n a small
@@ -229,7 +226,6 @@ begun-end x seen a small n all few B =
       };
       lists = B.lists;
       tails = B.tails;
-      sound = B.sound;
       flags = record {
         long = B.flagged.long;
         held = λ s c d. let h : s ≤ length t = rw (all_small_length t) at d in B.flagged.held s c (omega arith) ∙ sym (all_small_at t s c h);

@@ -6,24 +6,24 @@ ghost use Rattle.std.specs.Prelude.{◌≡◌, ◌+◌, ◌≤◌, ◌<◌, leng
 ghost use Rattle.words.specs.Reads.{at};
 ghost use Rattle.slots.specs.Slots.{put};
 ghost use Rattle.step1_rows.specs.Rows.{row, put_at, Long, NAME, SIZE, DIST};
-ghost use Rattle.step2_bits.specs.Sets.{flags, Sound, Empty};
+ghost use Rattle.step2_bits.specs.Sets.{flags, Empty};
 ghost use Rattle.step3_lists.specs.Filed.{Listed};
 ghost use Rattle.step4_fresh.specs.Fresh.{Blank, Joined, Began};
 
 use read_letters::last_alike;
 use slots::wide;
 use step1_rows::{DIST, NAME, PREV, SIZE, load, store};
-use step2_bits::mark;
+use step2_bits::Places;
 use step3_lists::file;
 
 // i is the first of its group, which is small
-fn first_letter(a: &mut [[u16; 1000]; 12], small: &mut [u64; 17], i: u16)
-    requires { (1 ≤ i) × (i ≤ 1000) × Sound small.old }
-    ensures { (a.new ≡ put_at (put_at a.old NAME i i) SIZE i 1) × Sound small.new × (flags small.new ≡ put (flags small.old) i 1) }
+fn first_letter(a: &mut [[u16; 1000]; 12], small: &mut Places, i: u16)
+    requires { (1 ≤ i) × (i ≤ 1000) }
+    ensures { (a.new ≡ put_at (put_at a.old NAME i i) SIZE i 1) × (flags small.new.words ≡ put (flags small.old.words) i 1) }
 {
     store(a, NAME, i, i);
     store(a, SIZE, i, 1);
-    mark(small, i);
+    small.mark(i);
 }
 
 // i joins the group of l, the position before it
@@ -42,20 +42,16 @@ fn next_letter(a: &mut [[u16; 1000]; 12], l: u16, i: u16)
 }
 
 // the groups of the n positions of the read
-pub fn fresh(a: &mut [[u16; 1000]; 12], small: &mut [u64; 17], read: &[u8], n: u16)
-    requires { (n ≤ 1000) × (length read.now ≡ n) × Blank a.old × Sound small.old × Empty (flags small.old) }
-    ensures { Began read.now n a.new small.new }
+pub fn fresh(a: &mut [[u16; 1000]; 12], small: &mut Places, read: &[u8], n: u16)
+    requires { (n ≤ 1000) × (length read.now ≡ n) × Blank a.old × Empty (flags small.old.words) }
+    ensures { Began read.now n a.new small.new.words }
 {
     let mut seen = [0u16; 256];
-    let mut i: u16 = 0;
-    while i < n {
-        let at = wide(i);
-        i += 1;
-        let l = last_alike(&mut seen, read[at], i);
-        if 0 < l {
-            next_letter(a, l, i);
-        } else {
-            first_letter(a, small, i);
+    for k in 0..n {
+        let i = k + 1;
+        match last_alike(&mut seen, read[wide(k)], i) {
+            Some(l) => next_letter(a, l, i),
+            None => first_letter(a, small, i),
         }
     }
 }

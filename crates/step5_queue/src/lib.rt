@@ -8,12 +8,12 @@ ghost use Rattle.slots.specs.Slots.{view};
 ghost use Rattle.refine.specs.Refine.{queue};
 ghost use Rattle.refine.specs.Phases.{Gaps, FlagsOf};
 ghost use Rattle.step1_rows.specs.Rows.{row, Long, Only, NAME, DIST, QUE};
-ghost use Rattle.step2_bits.specs.Sets.{flags, Sound, Empty};
+ghost use Rattle.step2_bits.specs.Sets.{flags, Empty};
 ghost use Rattle.step5_queue.specs.Filling.{left, group_of, Grown, Group};
 
 use slots::wide;
 use step1_rows::{DIST, QUE, load_wide, store_wide};
-use step2_bits::take_least;
+use step2_bits::Places;
 
 // the position left of j is put behind the k that are there, if there is one
 fn push_left(a: &mut [[u16; 1000]; 12], j: usize, k: usize) -> usize
@@ -45,18 +45,16 @@ fn push_group(a: &mut [[u16; 1000]; 12], s: usize, had: usize) -> usize
 }
 
 // the whole queue is put at the front of its row; returns its length
-pub fn push_all(a: &mut [[u16; 1000]; 12], small: &mut [u64; 17], n: u16) -> u16
-    requires { (n ≤ 1000) × Long a.old × Least (view n (row a.old NAME)) × Gaps (view n (row a.old NAME)) (row a.old DIST) × FlagsOf (view n (row a.old NAME)) (flags small.old) × Sound small.old }
+pub fn push_all(a: &mut [[u16; 1000]; 12], small: &mut Places, n: u16) -> u16
+    requires { (n ≤ 1000) × Long a.old × Least (view n (row a.old NAME)) × Gaps (view n (row a.old NAME)) (row a.old DIST) × FlagsOf (view n (row a.old NAME)) (flags small.old.words) }
     ensures { Long a.new × Only (QUE ∷ []) a.old a.new
-        × (view result (row a.new QUE) ≡ queue (view n (row a.old NAME)) (view n (flags small.old)))
-        × (result ≡ length (queue (view n (row a.old NAME)) (view n (flags small.old))))
-        × Sound small.new × Empty (flags small.new) }
+        × (view result (row a.new QUE) ≡ queue (view n (row a.old NAME)) (view n (flags small.old.words)))
+        × (result ≡ length (queue (view n (row a.old NAME)) (view n (flags small.old.words))))
+        × Empty (flags small.new.words) }
 {
     let mut k: usize = 0;
-    let mut s = take_least(small);
-    while 0 < s {
+    while let Some(s) = small.take_least() {
         k = push_group(a, wide(s), k);
-        s = take_least(small);
     }
     k as u16
 }

@@ -83,9 +83,7 @@ pub fn move_all(a: &mut [[u16; 1000]; 12], n: u16, w: u16, m: u16) -> Made
         parts: 0,
         groups: 0,
     };
-    let mut q: u16 = 0;
-    while q < m {
-        q += 1;
+    for q in 1..=m {
         let i = load(a, QUE, q);
         made = move_one(a, w, i, made);
     }

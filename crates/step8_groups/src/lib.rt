@@ -48,9 +48,7 @@ pub fn group_all(a: &mut [[u16; 1000]; 12], n: u16, h: u16, g: u16)
     requires { (t : List ℕ) × (S : List ℕ) × Turnable t S n h g a.old }
     ensures { (t S : List ℕ) → Turnable t S n h g a.old → Regrouped t S n h a.new × Only (NAME ∷ SIZE ∷ TAIL ∷ MANY ∷ []) a.old a.new }
 {
-    let mut q: u16 = 0;
-    while q < g {
-        q += 1;
+    for q in 1..=g {
         let k = load(a, TOUCHED, q);
         group_one(a, k);
     }

@@ -13,7 +13,7 @@ use Rattle.slots.specs.Slots.{put}
 use Rattle.slots.proofs.Laws.{view_is, put_same, put_other}
 use Rattle.step1_rows.specs.Rows.{row, among, inside, Long, NAME, SIZE, DIST, QUE, REST, MANY}
 use Rattle.step1_rows.proofs.Laws.{row_same, row_other, long-put, only_none, only-put, only_trans, only_more, only_row}
-use Rattle.step2_bits.specs.Sets.{flags, Sound, Empty}
+use Rattle.step2_bits.specs.Sets.{flags, Empty}
 use Rattle.step2_bits.proofs.Flags.{flags-length}
 use Rattle.refine.specs.Refine.{has, next_of}
 use Rattle.refine.proofs.Next.{next-length, next-least}
@@ -29,12 +29,11 @@ use Rattle.step9_parts.proofs.Choosing.{part-begins, begins-part, waits_first, w
 abbrev WRITTEN : List ℕ
 WRITTEN = NAME ∷ SIZE ∷ REST ∷ []
 
-pub turning_start : {n h : ℕ} {a : List (List ℕ)} {w : List ℕ} → Long a → Sound w → Empty (flags w) → Turning n h 0 a a w
-turning_start {n} {h} {a} {w} L W E =
+pub turning_start : {n h : ℕ} {a : List (List ℕ)} {w : List ℕ} → Long a → Empty (flags w) → Turning n h 0 a a w
+turning_start {n} {h} {a} {w} L E =
     record {
       long = L;
       only = only_none WRITTEN a;
-      sound = W;
       each = λ t S R.
           record {
             named = λ i x y no. R.names.kept i x y (⊎_elim (λ m. absurd (no (waits_first R (at (next_of t S) i) (part-begins R i m)))) (λ m. m) (either (has S i)));
@@ -128,15 +127,14 @@ module _ {n h q c : ℕ} {a b : List (List ℕ)} {w : List ℕ} (l : q < h) (G :
             chosen = rw (rests_are, D.flags_are, old, same MANY refl) (choose_step R l e N.chosen (G.long.each REST (omega arith)) (flags-length w));
           }
 
-  pub turning_step : {b' : List (List ℕ)} {w' : List ℕ} → Sound w' → Done b b' (flags w) (flags w') c → Turning n h (q + 1) a b' w'
+  pub turning_step : {b' : List (List ℕ)} {w' : List ℕ} → Done b b' (flags w) (flags w') c → Turning n h (q + 1) a b' w'
   unfolding among inside weighed
-  turning_step {b'} v D =
+  turning_step {b'} D =
       record {
         long = D.long;
         only = only_trans WRITTEN a b b' G.only
             (only_trans WRITTEN b _ b' (only-put WRITTEN b REST _ _ refl)
             (only_trans WRITTEN _ _ b' (only-put WRITTEN _ SIZE _ _ refl) (only_more (NAME ∷ []) WRITTEN _ b' refl D.rows)));
-        sound = v;
         each = λ t S R. turned_on R D;
       }
 
@@ -153,7 +151,6 @@ turning_end {t} {S} {n} {h} {q} {a} {b} {w} e G R =
         held = λ s x y. N.sized s x (rw (next-length t S) at y) none;
         beyond = λ s x y. N.no_sizes s (rw (next-length t S) at x) y;
       };
-      sound = G.sound;
       flags_are = choose_end R N.chosen (flags-length w);
     }
   where

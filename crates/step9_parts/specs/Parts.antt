@@ -5,7 +5,7 @@ use Rattle.words.specs.Reads.{at}
 use Rattle.words.specs.Groups.{parts_small}
 use Rattle.slots.specs.Slots.{put_some, view}
 use Rattle.step1_rows.specs.Rows.{row, put_at, Long, Only, NAME, SIZE, DIST, QUE, REST, MANY}
-use Rattle.step2_bits.specs.Sets.{flags, Sound}
+use Rattle.step2_bits.specs.Sets.{flags}
 use Rattle.refine.specs.Refine.{next_of}
 use Rattle.refine.specs.Phases.{Bare, Sized, Flagged}
 use Rattle.step8_groups.specs.Sweep.{Walkable, Swept}
@@ -45,7 +45,6 @@ pub record Done (a b : List (List ℕ)) (f g : List ℕ) (c : ℕ) : Type 0 wher
 pub record Turning (n h q : ℕ) (a b : List (List ℕ)) (w : List ℕ) : Type 0 where
   pub long : Long b
   pub only : Only (NAME ∷ SIZE ∷ REST ∷ []) a b
-  pub sound : Sound w
   pub each : (t S : List ℕ) → Regrouped t S n h a → TurnedTo t S (row a QUE) h q b (flags w)
 
 -- and after all: the names and the sizes of the new groups, of which all but the big parts are small
@@ -55,5 +54,4 @@ pub record Turned (t S : List ℕ) (n : ℕ) (a b : List (List ℕ)) (w : List �
   pub names : view n (row b NAME) ≡ next_of t S
   pub beyond : Bare n (row b NAME)
   pub sized : Sized (next_of t S) (row b SIZE)
-  pub sound : Sound w
   pub flags_are : Flagged (parts_small t (next_of t S)) (flags w)

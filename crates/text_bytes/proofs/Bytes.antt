@@ -2,33 +2,19 @@
 use Prim.Native.Nat.{ℕ, ◌-◌, ◌*◌, ◌^◌, ◌≤◌, ◌<◌, min, max}
 use mathlib.Core.Path.{◌≡◌, ap, ◌∙◌}
 use mathlib.Core.Logic.{⊎_elim}
-use mathlib.Core.Bool.{true, false, not}
+use mathlib.Core.Bool.{true, false}
 use mathlib.Core.List.{List, [], ◌∷◌}
 use native.Mathlib.Omega.{arith}
 use native.Mathlib.Nat.{pow-le-pow_right}
 use lib.ListN.{length, get_or, take}
-use lib.Dec.{eqb, lit<}
-use borrow.Author.Tests.{le-leb, lt-leb}
+use lib.Dec.{lit<}
 use Rattle.io.specs.Digits.{last_digits, IsDigitCount}
-use Rattle.words.specs.Logs.{within}
 use Rattle.words.proofs.Tests.{either, lt_or_ge}
 use Rattle.text_puts.specs.Ascii.{ascii}
 use Rattle.text_puts.proofs.Bounds.{gather-bound}
-use Rattle.text_bytes.specs.Bytes.{backslash, plain_byte, digits_text, byte_text, bytes_text}
+use Rattle.text_bytes.specs.Bytes.{plain_byte, digits_text, byte_text, bytes_text}
 
 module _ (b : ℕ) where
-  pub plain_low : b < 33 → false ≡ plain_byte b
-  unfolding plain_byte within
-  plain_low h = rw (lt-leb 33 b h)
-
-  pub plain_high : 33 ≤ b → 126 < b → false ≡ plain_byte b
-  unfolding plain_byte within
-  plain_high h k = rw (le-leb 33 b h, lt-leb b 126 k)
-
-  pub plain-inside : 33 ≤ b → b ≤ 126 → not (eqb b backslash) ≡ plain_byte b
-  unfolding plain_byte within
-  plain-inside h k = rw (le-leb 33 b h, le-leb b 126 k)
-
   pub byte_itself : plain_byte b ≡ true → byte_text b ≡ b ∷ []
   unfolding byte_text
   byte_itself e = rw e

@@ -9,16 +9,11 @@ ghost use Rattle.text_bytes.specs.Bytes.{plain_byte, digits_text, byte_text, byt
 use text_puts::put_word;
 
 // can a byte stand for itself?
+#[tactic(auto, unfolding(crate::specs::Bytes::plain_byte, words::specs::Logs::within))]
 fn is_plain(b: u8) -> bool
     ensures { result ≡ plain_byte b }
 {
-    if b < 33 {
-        return false;
-    }
-    if 126 < b {
-        return false;
-    }
-    b != b'\\'
+    (33..=126).contains(&b) && b != b'\\'
 }
 
 // a byte in the form of its two digits
@@ -50,10 +45,8 @@ pub fn put_bytes(buf: &mut [u8], at: usize, read: &[u8]) -> usize
     ensures { Puts buf.old at (bytes_text read.now) buf.new result }
 {
     let mut next = at;
-    let mut i = 0;
-    while i < read.len() {
-        next = put_byte(buf, next, read[i]);
-        i += 1;
+    for b in read {
+        next = put_byte(buf, next, *b);
     }
     next
 }

@@ -5,7 +5,7 @@ use mathlib.Core.List.{List}
 use Rattle.words.specs.Lists.{lines, in_mode}
 use Rattle.words.specs.Answers.{Answer}
 use Rattle.words.specs.Calls.{list_afterwards}
-use Rattle.call_lists.proofs.Said.{said_once}
+use Rattle.words.proofs.Said.{counted_once}
 use Rattle.text_lines.specs.Lines.{Keeps}
 use Rattle.text_hears.proofs.hear.Reads as hear
 
@@ -13,4 +13,4 @@ pub hear_settled : (κs : _) (a : _) (x y : _) (e f : _) → hear.Learnt κs a x
     Keeps l a.1.0 a.0.now → (x ≡ y) × (e.1.1.0.now ≡ f.1.1.0.now)
 hear_settled κs a x y e f p q l k =
     let s = p.says l k ∙ sym (q.says l k) in
-    (said_once x y s, p.leaves l k ∙ ap (λ (v : Answer). list_afterwards v (lines l (in_mode l 0)) a.1.1.0.now) s ∙ sym (q.leaves l k))
+    (counted_once x y s, p.leaves l k ∙ ap (λ (v : Answer). list_afterwards v (lines l (in_mode l 0)) a.1.1.0.now) s ∙ sym (q.leaves l k))

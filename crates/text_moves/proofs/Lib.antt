@@ -1,4 +1,3 @@
-pub mod Cells
 pub mod Shapes
 pub mod Pieces
 pub mod Bounds

@@ -14,26 +14,22 @@ use text_groups::put_spaced;
 use text_puts::{put_number, put_word};
 
 // does entry k begin a line?
+#[tactic(auto, unfolding(crate::specs::Moves::begins))]
 fn is_first(moves: &[u16], k: usize) -> bool
     requires { k < rows move_size moves.now }
     ensures { result ≡ begins moves.now k }
 {
-    if k == 0 {
-        return true;
-    }
-    name_of(moves, k - 1) != name_of(moves, k)
+    k == 0 || name_of(moves, k - 1) != name_of(moves, k)
 }
 
 // does entry k end its line?
+#[tactic(auto, unfolding(crate::specs::Moves::ends))]
 fn is_last(moves: &[u16], k: usize) -> bool
     requires { k < rows move_size moves.now }
     ensures { result ≡ ends moves.now k }
 {
     let count = entries(moves);
-    if k + 1 == count {
-        return true;
-    }
-    name_of(moves, k) != name_of(moves, k + 1)
+    k + 1 == count || name_of(moves, k) != name_of(moves, k + 1)
 }
 
 // the name that entry k moved under, at the beginning of a line
@@ -78,10 +74,8 @@ pub fn put_moves(buf: &mut [u8], at: usize, moves: &[u16]) -> usize
 {
     let count = entries(moves);
     let mut next = at;
-    let mut k = 0;
-    while k < count {
+    for k in 0..count {
         next = put_move(buf, next, moves, k);
-        k += 1;
     }
     next
 }

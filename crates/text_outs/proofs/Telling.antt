@@ -1,11 +1,12 @@
 -- The account of the output: what is collected may be written out at any time, and a text goes behind it; after a failed write the text that
 -- was made is only begun, and stays so. Assumes nothing.
-use Prim.Native.Nat.{ℕ, ◌≤◌, ◌<◌}
+use Prim.Native.Nat.{ℕ}
 use mathlib.Core.Path.{◌≡◌, refl, sym}
-use mathlib.Core.Bool.{true, false}
+use mathlib.Core.Bool.{true}
 use mathlib.Core.List.{List, [], ◌++◌, append_assoc, append-nil}
-use lib.ListN.{length, take, drop, take-append-drop}
-use lib.Seq.{length-take-le, take_all}
+use native.Mathlib.Omega.{arith}
+use lib.ListN.{length, take}
+use lib.Seq.{take_all}
 use Rattle.words.proofs.Tests.{clash}
 use Rattle.text_pipes.specs.Accounts.{Handed}
 use Rattle.text_pipes.proofs.Accounts.{account_none, account_more}
@@ -41,40 +42,20 @@ adds_text {buf} {o} {more} e =
 pub adds_more : {a : List ℕ} {o : Out} {s b : List ℕ} {p : Out} {t c : List ℕ} {q : Out} → Adds a o s b p → Adds b p t c q → Adds a o (s ++ t) c q
 adds_more {s = s} {t = t} f g = record { to = λ text h. rw (sym (append_assoc text s t)) (g.to (text ++ s) (f.to text h)) }
 
-module _ (buf : List ℕ) (o : Out) where
-  pub adds_failed : o.ok ≡ false → Adds buf o [] buf (record { used = 0; ok = false })
-  adds_failed e =
-      record { to = λ text t. record { out = t.out; took = t.took; whole = λ h. clash h refl; begun = λ h. begun_more [] (t.begun e) } }
+-- what is collected was written out
+module _ (buf : List ℕ) (o : Out) (e : o.ok ≡ true) where
+  abbrev all : List ℕ
+  all = take o.used buf
 
-  module _ (inside : o.used ≤ length buf) (e : o.ok ≡ true) {done : ℕ} (h : Handed (take o.used buf) done) where
-    pub adds_written : o.used ≤ done → Adds buf o [] buf (record { used = 0; ok = true })
-    adds_written l =
-        let all : List ℕ = take o.used buf in
-        let w : take done all ≡ all = take_all done all (rw (length-take-le o.used buf inside) l) in
-        record {
-          to = λ text t.
-              record {
-                out = t.out ++ take done all;
-                took = account_more t.took h.took;
-                whole = λ q. rw (append-nil text, append-nil (t.out ++ take done all), w) (t.whole e);
-                begun = λ q. clash refl q;
-              };
-        }
-
-    pub adds_stuck : done < o.used → Adds buf o [] buf (record { used = 0; ok = false })
-    adds_stuck l =
-        let all : List ℕ = take o.used buf in
-        record {
-          to = λ text t.
-              record {
-                out = t.out ++ take done all;
-                took = account_more t.took h.took;
-                whole = λ q. clash q refl;
-                begun = λ q.
-                    record {
-                      rest = drop done all;
-                      whole = rw (append-nil text, append_assoc t.out (take done all) (drop done all), take-append-drop done all) (t.whole e);
-                      stuck = h.stuck (rw (length-take-le o.used buf inside) l);
-                    };
-              };
-        }
+  pub adds_written : Handed all (length all) → Adds buf o [] buf (record { used = 0; ok = true })
+  adds_written h =
+      let w : take (length all) all ≡ all = take_all (length all) all (omega arith) in
+      record {
+        to = λ text t.
+            record {
+              out = t.out ++ take (length all) all;
+              took = account_more t.took h.took;
+              whole = λ q. rw (append-nil text, append-nil (t.out ++ take (length all) all), w) (t.whole e);
+              begun = λ q. clash refl q;
+            };
+      }

@@ -19,17 +19,17 @@ pub fn flush(pipes: Pipes, buf: &[u8], o: Out) -> Out
     requires { o.used ≤ length buf.now }
     ensures { (result.used ≡ 0) × Adds buf.now o [] buf.now result }
 {
-    let used = o.used;
     if !o.ok {
         return Out { used: 0, ok: false };
     }
-    let mut error = 0;
-    let done = text_pipes::hand(pipes, &buf[..used], &mut error);
-    if done < used {
-        text_pipes::tell_unwritten(pipes, done, used, error);
-        return Out { used: 0, ok: false };
-    }
-    Out { used: 0, ok: true }
+    let ok = match text_pipes::hand(pipes, &buf[..o.used]) {
+        Ok(()) => true,
+        Err(left) => {
+            text_pipes::tell_unwritten(pipes, o.used, left);
+            false
+        }
+    };
+    Out { used: 0, ok }
 }
 
 // makes room for a text of at most `need` bytes: where it does not fit behind what is collected, that is written out
@@ -37,8 +37,7 @@ pub fn room(pipes: Pipes, buf: &[u8], need: usize, o: Out) -> Out
     requires { o.used ≤ length buf.now }
     ensures { (result.used ≡ next_place need (length buf.now) o.used) × Adds buf.now o [] buf.now result }
 {
-    let used = o.used;
-    if need <= buf.len() - used {
+    if need <= buf.len() - o.used {
         return o;
     }
     flush(pipes, buf, o)

@@ -2,7 +2,7 @@
 use Rattle.std.specs.Prelude.{ℕ, ◌≤◌, ◌<◌, ◌≡◌, Bool, true, false, List, [], ◌∷◌, ◌++◌, length, take, ℤ, pos, negsuc, eqb, Result, Ok, Err}
 use Rattle.std.specs.declared.io.Error.{Error}
 use Rattle.io.specs.Counts.{clamp_len}
-use Rattle.text_pipes.specs.declared.Got.{Got}
+use Rattle.text_pipes.specs.declared.Unwritten.{Unwritten}
 
 -- what a call that is handed n bytes may answer: -1, or how many bytes it moved, at most n
 abbrev pub Moved : ℕ → ℤ → Type 0
@@ -22,12 +22,12 @@ abbrev pub standard_output : ℤ
 standard_output = pos 1
 
 -- A read call on fd left these bytes in its buffer and answered `got`: how many of them it gave, 0 at the end of the input, less where it failed, as it does
--- where fd is not read from. Only the proof of `ask` makes one, so nothing but a call gives it.
+-- where fd is not read from. Only the proof of `read` makes one, so nothing but a call gives it.
 unfoldable pub Gave : ℤ → List ℕ → ℤ → Type 0
 Gave fd bytes got = Moved (length bytes) got
 
 -- A write call on fd was handed these bytes and answered `got`: how many it took, less than 0 where it failed, as it does where fd is not
--- written to. Only the proof of `put` makes one.
+-- written to. Only the proof of `write` makes one.
 unfoldable pub Wrote : ℤ → List ℕ → ℤ → Type 0
 Wrote fd bytes got = Moved (length bytes) got
 
@@ -91,21 +91,21 @@ pub record Stuck : Type 0 where
   pub said : Wrote standard_output bytes got
   pub none : clamp_len got (length bytes) ≡ 0
 
--- what was got of a read call on fd: how many bytes it gave, and whether the input has ended
-pub record Asked (fd : ℤ) (bytes : List ℕ) (r : Got) : Type 0 where
-  pub got : ℤ
-  pub said : Gave fd bytes got
-  pub count : r.count ≡ clamp_len got (length bytes)
-  pub ended : r.ended ≡ at_end got
+-- what was got of a read call on fd: how many bytes it gave, 0 at the end of the input, or that it failed
+abbrev pub Asked : ℤ → List ℕ → Result ℕ Error → Type 0
+Asked fd bytes r = Gave fd bytes (told r)
 
--- how many of these bytes a write call on fd took
-pub record Put (fd : ℤ) (bytes : List ℕ) (r : ℕ) : Type 0 where
-  pub got : ℤ
-  pub said : Wrote fd bytes got
-  pub count : r ≡ clamp_len got (length bytes)
+-- how many of these bytes a write call on fd took, or that it failed
+abbrev pub Put : ℤ → List ℕ → Result ℕ Error → Type 0
+Put fd bytes r = Wrote fd bytes (told r)
 
 -- write calls took the first r of these bytes, and one took nothing where some are left
 pub record Handed (bytes : List ℕ) (r : ℕ) : Type 0 where
   pub inside : r ≤ length bytes
   pub took : Account Write (take r bytes)
   pub stuck : r < length bytes → Stuck
+
+-- how many of n bytes write calls took: all of them, or those before one that took none
+abbrev pub taken : ℕ → Result (Unit {0}) Unwritten → ℕ
+taken n (Ok _) = n
+taken n (Err u) = u.done

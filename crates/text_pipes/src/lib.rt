@@ -1,11 +1,11 @@
 // The calls that reach outside: one read call, the write calls that take a text, and what is told of a failure on standard error. A call that
 // was interrupted, or that a pipe asks to come back later, is made again. `Gave` and `Wrote` say that a call was made and what it moved: the
-// programs' contracts rest on them, and only `ask` and `put` can give them. Standard input is read, standard output and error are written; a call on
+// programs' contracts rest on them, and only `read` and `write` can give them. Standard input is read, standard output and error are written; a call on
 // any other descriptor fails.
 #![tactic(auto)]
 
-ghost use Rattle.std.specs.Prelude.{◌≡◌, ◌^◌, ◌<◌, length, IfOk};
-ghost use Rattle.text_pipes.specs.Accounts.{Moved, told, standard_output, Asked, Put, Handed};
+ghost use Rattle.std.specs.Prelude.{◌≤◌, ◌<◌, length, IfOk, IfErr};
+ghost use Rattle.text_pipes.specs.Accounts.{standard_output, Asked, Put, Handed, taken};
 
 use std::env::FillError;
 use std::io::{Error, ErrorKind, Print, Read, Stderr, Stdin, Stdout, Write};
@@ -29,136 +29,126 @@ pub struct Pipes {
     pub errors: Stderr,
 }
 
-// whether the call that failed with this error is to be made again: a signal came in between, or it would have had to wait
-fn again(error: i32) -> bool {
-    match Error::from_raw_os_error(error).kind() {
-        ErrorKind::Interrupted => true,
-        ErrorKind::WouldBlock => true,
-        _ => false,
+impl Pipes {
+    // of what `main` is given, the leave that these calls need; each handle has one value, so there is nothing to promise
+    pub fn new(rt: &HostRuntime) -> Pipes {
+        Pipes {
+            input: rt.stdin(),
+            output: rt.stdout(),
+            errors: rt.stderr(),
+        }
     }
 }
 
-// a call's answer as a number: how many bytes it moved, -1 where it failed, and then its error
-fn told(answer: Result<usize, Error>, error: &mut i32) -> isize
-    requires { IfOk answer (λ n. n < 2 ^ 63) }
-    ensures { result ≡ told answer }
-{
+// whether a call that answered so is to be made again: a signal came in between, or it would have had to wait
+fn again(answer: &Result<usize, Error>) -> bool {
     match answer {
-        Ok(n) => n as isize,
-        Err(e) => {
-            *error = e.raw_os_error().unwrap_or(0);
-            -1
-        }
+        Ok(_) => false,
+        Err(e) => matches!(e.kind(), ErrorKind::Interrupted | ErrorKind::WouldBlock),
     }
 }
 
 // one read call on a descriptor, of which only standard input is read
-fn read(pipes: Pipes, fd: i32, input: &mut [u8], error: &mut i32) -> isize
-    ensures { Moved (length input.new) result }
+fn read(pipes: Pipes, fd: i32, input: &mut [u8]) -> Result<usize, Error>
+    ensures asked { Asked fd input.new result }
+    ensures fits { IfOk result (λ n. n ≤ length input.new) }
 {
     let mut stdin = pipes.input;
-    let answer = match fd {
+    match fd {
         STDIN_FILENO => stdin.read(input),
         _ => Err(Error::from_raw_os_error(EBADF)),
-    };
-    told(answer, error)
+    }
 }
 
 // one write call on a descriptor, of which standard output and error are written
-fn write(pipes: Pipes, fd: i32, bytes: &[u8], error: &mut i32) -> isize
-    ensures { Moved (length bytes.now) result }
+fn write(pipes: Pipes, fd: i32, bytes: &[u8]) -> Result<usize, Error>
+    ensures took { Put fd bytes.now result }
+    ensures fits { IfOk result (λ n. n ≤ length bytes.now) }
 {
     let mut stdout = pipes.output;
     let mut stderr = pipes.errors;
-    let answer = match fd {
+    match fd {
         STDOUT_FILENO => stdout.write(bytes),
         STDERR_FILENO => stderr.write(bytes),
         _ => Err(Error::from_raw_os_error(EBADF)),
-    };
-    told(answer, error)
+    }
 }
 
-// what a read call gave: how many bytes, or that the input has ended; neither where it failed, and then the system's number for its error
-#[derive(Drop)]
-pub struct Got {
-    pub count: usize,
-    pub ended: bool,
-    pub error: i32,
-}
-
-// one read call on a descriptor
-pub fn ask(pipes: Pipes, fd: i32, input: &mut [u8]) -> Got
-    ensures { Asked fd input.new result }
+// One read call on a descriptor: how many bytes it gave, 0 at the end of the input. Nothing says that interruptions end, so its turns are counted.
+pub fn ask(pipes: Pipes, fd: i32, input: &mut [u8]) -> Result<usize, Error>
+    ensures asked { Asked fd input.new result }
+    ensures fits { IfOk result (λ n. n ≤ length input.new) }
 {
-    let mut turns = u64::MAX;
-    let mut error = 0;
-    while turns > 0 {
-        let got = read(pipes, fd, input, &mut error);
-        if got >= 0 || !again(error) {
-            return Got {
-                count: io::count(got, input),
-                ended: got == 0,
-                error,
-            };
+    for _ in 1..u64::MAX {
+        let got = read(pipes, fd, input);
+        if !again(&got) {
+            return got;
         }
-        turns -= 1;
     }
-    Got {
-        count: 0,
-        ended: false,
-        error,
-    }
+    read(pipes, fd, input)
 }
 
-// one write call on a descriptor: how many bytes it took, 0 where it failed
-fn put(pipes: Pipes, fd: i32, bytes: &[u8], error: &mut i32) -> usize
-    ensures { Put fd bytes.now result }
+// One write call on a descriptor: how many bytes it took. One loop with `ask` would take the call as a closure, which is no plainer.
+fn put(pipes: Pipes, fd: i32, bytes: &[u8]) -> Result<usize, Error>
+    ensures took { Put fd bytes.now result }
+    ensures fits { IfOk result (λ n. n ≤ length bytes.now) }
 {
-    let mut turns = u64::MAX;
-    while turns > 0 {
-        let got = write(pipes, fd, bytes, error);
-        if got >= 0 || !again(*error) {
-            return io::count(got, bytes);
+    for _ in 1..u64::MAX {
+        let took = write(pipes, fd, bytes);
+        if !again(&took) {
+            return took;
         }
-        turns -= 1;
     }
-    0
+    write(pipes, fd, bytes)
 }
 
 // one write call on standard output
-fn put_out(pipes: Pipes, bytes: &[u8], error: &mut i32) -> usize
-    ensures { Put standard_output bytes.now result }
+fn put_out(pipes: Pipes, bytes: &[u8]) -> Result<usize, Error>
+    ensures took { Put standard_output bytes.now result }
+    ensures fits { IfOk result (λ n. n ≤ length bytes.now) }
 {
-    put(pipes, STDOUT_FILENO, bytes, error)
+    put(pipes, STDOUT_FILENO, bytes)
 }
 
-// hands bytes to write calls on standard output, one after another, until all are taken or a call takes none: how many were taken
-pub fn hand(pipes: Pipes, bytes: &[u8], error: &mut i32) -> usize
-    ensures { Handed bytes.now result }
+// what stopped the writing of a text: a call took none of what was left behind the first `done` bytes, and why
+#[derive(Drop)]
+pub struct Unwritten {
+    pub done: usize,
+    pub why: Error,
+}
+
+// hands bytes to write calls on standard output, one after another, until all are taken or a call takes none
+pub fn hand(pipes: Pipes, bytes: &[u8]) -> Result<(), Unwritten>
+    ensures handed { Handed bytes.now (taken (length bytes.now) result) }
+    ensures left { IfErr result (λ u. u.done < length bytes.now) }
 {
     let mut done = 0;
+    // it stays a `while`: each call says how far it came, and an iterator that is told so is no plainer
     while done < bytes.len() {
-        let k = put_out(pipes, &bytes[done..], error);
-        if k == 0 {
-            return done;
+        match put_out(pipes, &bytes[done..]) {
+            // no error says why: the system's number is then 0
+            Ok(0) => {
+                let why = Error::from_raw_os_error(0);
+                return Err(Unwritten { done, why });
+            }
+            Ok(k) => done += k,
+            Err(why) => return Err(Unwritten { done, why }),
         }
-        done += k;
     }
-    done
+    Ok(())
 }
 
 // says on standard error that a read call failed and that the line so far, of `len` bytes, is not answered
-pub fn tell_unread(pipes: Pipes, len: usize, error: i32) {
-    let why = Error::from_raw_os_error(error);
+pub fn tell_unread(pipes: Pipes, len: usize, why: Error) {
     let errors = pipes.errors;
     let _ = eprintln!(errors;
         "reading failed behind {len} bytes of a line, which is not answered: {why}"
     );
 }
 
-// says on standard error that of a text of `all` bytes only `done` were written, and that nothing follows
-pub fn tell_unwritten(pipes: Pipes, done: usize, all: usize, error: i32) {
-    let why = Error::from_raw_os_error(error);
+// says on standard error that of a text of `all` bytes only those that were taken are written, and that nothing follows
+pub fn tell_unwritten(pipes: Pipes, all: usize, left: Unwritten) {
+    let Unwritten { done, why } = left;
     let errors = pipes.errors;
     let _ = eprintln!(errors;
         "writing failed behind {done} of {all} bytes: the last line may be cut, and the answers behind it are lost: {why}"

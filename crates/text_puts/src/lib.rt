@@ -11,12 +11,9 @@ pub fn put_word(buf: &mut [u8], at: usize, word: &[u8]) -> usize
     requires { Room buf.old at word.now }
     ensures { Puts buf.old at word.now buf.new result }
 {
-    let mut i = 0;
-    while i < word.len() {
-        buf[at + i] = word[i];
-        i += 1;
-    }
-    at + i
+    let end = at + word.len();
+    buf[at..end].copy_from_slice(word);
+    end
 }
 
 // a number and the byte after it
@@ -53,10 +50,8 @@ pub fn put_numbers(buf: &mut [u8], at: usize, row: &[u16]) -> usize
     ensures { Puts buf.old at (numbers_text row.now) buf.new result }
 {
     let mut next = at;
-    let mut i = 0;
-    while i < row.len() {
+    for i in 0..row.len() {
         next = put_cell(buf, next, row, i);
-        i += 1;
     }
     next
 }

@@ -200,8 +200,3 @@ ran {text} {buf} {o} {r} t f =
     go : (b : Bool) → r.ok ≡ b → (told.out ≡ texts text t.answered) ⊎ Begun told.out (texts text t.answered)
     go true e = inl (sym (told.whole e ∙ rw f.0 (append-nil told.out)))
     go false e = inr (told.begun e)
-
--- a turn less is left
-pub stands-next : {text : List ℕ → List ℕ} (turns : ℕ) {input line buf : List ℕ} {s : State} → 0 < turns → turns ≤ 2 ^ 64 - 1 →
-    Stands text (suc (2 ^ 64 - 1 - turns)) input line buf s → Stands text (2 ^ 64 - 1 - (turns - 1)) input line buf s
-stands-next turns a b t = let e : 2 ^ 64 - 1 - (turns - 1) ≡ suc (2 ^ 64 - 1 - turns) = omega arith in rw e t

@@ -2,12 +2,13 @@
 -- write call has a say: docs/EXCEPTIONS.md has the rest. Assumes nothing.
 use Prim.Native.Nat.{ℕ, ◌+◌, ◌<◌}
 use mathlib.Core.Bool.{true}
+use Rattle.std.proofs.Common.{Some}
 use mathlib.Core.Path.{◌≡◌, sym, ap, ◌∙◌}
 use mathlib.Core.Logic.{⊎_elim}
 use mathlib.Core.List.{List}
 use native.Mathlib.Omega.{arith}
 use Rattle.text_lines.specs.Lines.{Keeps}
-use Rattle.text_streams.specs.Cuts.{end_of, Turned}
+use Rattle.text_streams.specs.Cuts.{end_of, reached, Turned}
 use Rattle.text_streams.specs.declared.State.{State}
 use Rattle.text_streams.specs.declared.Next.{Next}
 use Rattle.text_streams.proofs.begin.Reads as begin
@@ -24,13 +25,12 @@ goes_on_settled κs a x y e f p q = p ∙ sym q
 abbrev behind : List ℕ → State → ℕ → Next
 behind input s len =
     record {
-      found = true;
-      len = len;
+      line = Some len;
       state = record { source = record { from = end_of input s.source + 1; end = s.source.end; len = 0; more = true }; out = s.out };
     }
 
 turned_is : {input line buf : List ℕ} {s : State} {input' line' : List ℕ} {r : Next} → Turned input line buf s input' line' r →
-    end_of input s.source < s.source.end → r ≡ behind input s r.len
+    end_of input s.source < s.source.end → r ≡ behind input s (reached r)
 turned_is t h = ⊎_elim (λ c. c.turn) (λ w. absurd (omega (arith, h, w.plain))) t.goes
 
 -- where a newline stands in the bytes that are there, a turn has no call to wait for: its line is found, of a settled length, and the input and
@@ -38,5 +38,5 @@ turned_is t h = ⊎_elim (λ c. c.turn) (λ w. absurd (omega (arith, h, w.plain)
 pub turn_settled : (κs : _) (a : _) (x y : _) (e f : _) → turn.Learnt κs a x e → turn.Learnt κs a y f → (l : List ℕ) →
     Keeps l a.1.1.1.1.0.source.len a.1.1.0.now → end_of a.1.0.now a.1.1.1.1.0.source < a.1.1.1.1.0.source.end → x ≡ y
 turn_settled κs a x y e f p q l k h =
-    let n : x.len ≡ y.len = (p.keeps l k).size ∙ sym (q.keeps l k).size in
+    let n : reached x ≡ reached y = (p.keeps l k).size ∙ sym (q.keeps l k).size in
     turned_is p h ∙ ap (behind a.1.0.now a.1.1.1.1.0) n ∙ sym (turned_is q h)

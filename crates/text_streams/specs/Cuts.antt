@@ -1,5 +1,6 @@
 -- What each step leaves: a read call waited for, and a turn.
-use Rattle.std.specs.Prelude.{ℕ, ◌+◌, ◌≤◌, ◌<◌, ◌≡◌, ◌⊎◌, Bool, true, false, List, [], ◌++◌, length, take, drop, ltb, ℤ}
+use Rattle.std.specs.Prelude.{ℕ, ◌+◌, ◌≤◌, ◌<◌, ◌≡◌, ◌⊎◌, true, false, cond, List, [], ◌++◌, length, take, drop, ltb, ℤ, Option, Some, None}
+use Rattle.std.specs.Option.{unwrap_or}
 use Rattle.io.specs.Counts.{clamp_len}
 use Rattle.text_pipes.specs.Accounts.{Read, Ended, Unread}
 use Rattle.text_lines.specs.Lines.{line_end, line_rest, Keeps}
@@ -33,12 +34,20 @@ rest_of input s = line_rest (chunk_of input s) s.from
 -- a line of len bytes goes on with that many bytes more
 abbrev pub filled : ℕ → ℕ → Out → Next
 filled count len out =
-    record { found = false; len = len; state = record { source = record { from = 0; end = count; len = len; more = true }; out = out } }
+    record { line = None; state = record { source = record { from = 0; end = count; len = len; more = true }; out = out } }
 
 -- no line follows
-abbrev pub stopped : Bool → ℕ → Out → Next
-stopped found len out =
-    record { found = found; len = len; state = record { source = record { from = 0; end = 0; len = len; more = false }; out = out } }
+abbrev pub stopped : Option ℕ → ℕ → Out → Next
+stopped line len out =
+    record { line = line; state = record { source = record { from = 0; end = 0; len = len; more = false }; out = out } }
+
+-- a last line of len bytes counts if it is not empty
+abbrev pub last_found : ℕ → Option ℕ
+last_found len = cond (ltb 0 len) (Some len) None
+
+-- how many bytes the line has that was found, or the line so far
+abbrev pub reached : Next → ℕ
+reached r = unwrap_or r.line r.state.source.len
 
 -- a read call gave bytes, all of which are still to be taken
 pub record Filled (len : ℕ) (out : Out) (input : List ℕ) (r : Next) : Type 0 where
@@ -49,12 +58,12 @@ pub record Filled (len : ℕ) (out : Out) (input : List ℕ) (r : Next) : Type 0
 -- the input ended: a line of len bytes counts if it is not empty
 pub record Over (len : ℕ) (out : Out) (r : Next) : Type 0 where
   pub ended : Ended
-  pub turn : r ≡ stopped (ltb 0 len) len out
+  pub turn : r ≡ stopped (last_found len) len out
 
 -- a read call failed, or a write call before it: the line so far does not count
 pub record Broken (len : ℕ) (out : Out) (r : Next) : Type 0 where
   pub why : Unread ⊎ (out.ok ≡ false)
-  pub turn : r ≡ stopped false len out
+  pub turn : r ≡ stopped None len out
 
 -- a read call was waited for behind a line of len bytes
 abbrev pub Waited : ℕ → Out → List ℕ → Next → Type 0
@@ -64,7 +73,7 @@ Waited len out input r = Filled len out input r ⊎ (Over len out r ⊎ Broken l
 pub record Cut (input : List ℕ) (s : State) (input' : List ℕ) (r : Next) : Type 0 where
   pub newline : end_of input s.source < s.source.end
   pub untouched : input' ≡ input
-  pub turn : r ≡ record { found = true; len = r.len; state = record { source = record { from = end_of input s.source + 1; end = s.source.end; len = 0; more = true }; out = s.out } }
+  pub turn : r ≡ record { line = Some (reached r); state = record { source = record { from = end_of input s.source + 1; end = s.source.end; len = 0; more = true }; out = s.out } }
 
 -- there was none: what was collected was written out, and then a read call waited for
 pub record Spent (input buf : List ℕ) (s : State) (input' : List ℕ) (r : Next) : Type 0 where
@@ -72,9 +81,9 @@ pub record Spent (input buf : List ℕ) (s : State) (input' : List ℕ) (r : Nex
   pub out : Out
   pub empty : out.used ≡ 0
   pub told : Adds buf s.out [] buf out
-  pub waited : Waited r.len out input' r
+  pub waited : Waited (reached r) out input' r
 
 -- one turn: the line so far goes on with the bytes that were there, up to a newline
 pub record Turned (input line buf : List ℕ) (s : State) (input' line' : List ℕ) (r : Next) : Type 0 where
-  pub keeps : (x : List ℕ) → Keeps x s.source.len line → Keeps (x ++ rest_of input s.source) r.len line'
+  pub keeps : (x : List ℕ) → Keeps x s.source.len line → Keeps (x ++ rest_of input s.source) (reached r) line'
   pub goes : Cut input s input' r ⊎ Spent input buf s input' r

@@ -3,7 +3,7 @@ use Rattle.std.specs.Prelude.{ℕ, suc, ◌+◌, ◌-◌, ◌^◌, ◌≤◌, �
 use Rattle.text_pipes.specs.Accounts.{Account, Read, Write, Ended, Unread, Stuck}
 use Rattle.text_lines.specs.Lines.{lines_of, Plain, Keeps}
 use Rattle.text_streams.specs.Cuts.{Within, pending}
-use Rattle.text_outs.specs.Outputs.{Begun, Told}
+use Rattle.text_outs.specs.Outputs.{Begun, Told, Adds}
 use Rattle.text_outs.specs.declared.Out.{Out}
 use Rattle.text_streams.specs.declared.State.{State}
 
@@ -47,6 +47,17 @@ pub record Stopped (text : List ℕ → List ℕ) (buf : List ℕ) (o : Out) : T
   pub lines : lines_of bytes ≡ answered ++ left
   pub told : Told (texts text answered) buf o
   pub why : Stop left o (length came.calls + length answered)
+
+-- the line buffer tells a read of 1,000 bytes from a longer line, the buffer of the texts has room for one, and what is collected lies in it
+pub record Ready (need : ℕ) (line buf : List ℕ) (used : ℕ) : Type 0 where
+  pub long : 1001 ≤ length line
+  pub room : need ≤ length buf
+  pub inside : used ≤ length buf
+
+-- the text of a line of len bytes was collected, whatever line it is
+pub record Answered (text : List ℕ → List ℕ) (line : List ℕ) (len : ℕ) (buf : List ℕ) (o : Out) (buf' : List ℕ) (r : Out) : Type 0 where
+  pub inside : r.used ≤ length buf
+  pub adds : (x : List ℕ) → Keeps x len line → Adds buf o (text x) buf' r
 
 -- a turn of a program, with the line that it found answered: it goes on, or it has stopped
 pub record Advances (text : List ℕ → List ℕ) (input line buf : List ℕ) (s : State) (input' line' buf' : List ℕ) (r : State) : Type 0 where

@@ -1,11 +1,12 @@
 // Standard input cut into lines, and standard output collected into large writes. A turn takes the bytes that are there up to the next newline
 // or, where there is none, writes out what is collected and makes one read call: a program that waits for more has said all that it knows.
+// `run` is the loop of turns, over what a program answers to a line (`Answers`).
 // The contracts speak of all that read calls gave and write calls took (`text_pipes`): specs/Programs.antt says what a program then owes.
 #![tactic(auto)]
 
-ghost use Rattle.std.specs.Prelude.{◌≡◌, ◌-◌, ◌^◌, ◌≤◌, length};
+ghost use Rattle.std.specs.Prelude.{◌≡◌, ◌≤◌, ℕ, List, length};
 ghost use Rattle.text_streams.specs.Cuts.{Within, stopped, Waited, Turned};
-ghost use Rattle.text_streams.specs.Programs.{beginning, going};
+ghost use Rattle.text_streams.specs.Programs.{beginning, going, Ready, Answered, Advances, Stopped, Ran};
 
 use text_lines::take_part;
 use text_outs::{Out, flush};
@@ -28,11 +29,10 @@ pub struct State {
     pub out: Out,
 }
 
-// what a turn found: a line of `len` bytes, or none yet
+// what a turn found: a line of so many bytes, or none yet
 #[derive(Drop)]
 pub struct Next {
-    pub found: bool,
-    pub len: usize,
+    pub line: Option<usize>,
     pub state: State,
 }
 
@@ -47,41 +47,28 @@ pub fn goes_on(s: State) -> bool
 pub fn begin() -> State
     ensures { result ≡ beginning }
 {
-    State {
-        source: Source {
-            from: 0,
-            end: 0,
-            len: 0,
-            more: true,
-        },
-        out: Out { used: 0, ok: true },
-    }
-}
-
-// Nothing says that the input ends, so a program counts its turns down from here: no run uses them up.
-pub fn most_turns() -> u64
-    ensures { result ≡ 2 ^ 64 - 1 }
-{
-    u64::MAX
+    let source = Source {
+        from: 0,
+        end: 0,
+        len: 0,
+        more: true,
+    };
+    let out = Out { used: 0, ok: true };
+    State { source, out }
 }
 
 // no line follows: the input has ended, or a read or a write failed
-fn stop(found: bool, len: usize, out: Out) -> Next
-    ensures { result ≡ stopped found len out }
+fn stop(line: Option<usize>, len: usize, out: Out) -> Next
+    ensures { result ≡ stopped line len out }
 {
-    Next {
-        found,
+    let source = Source {
+        from: 0,
+        end: 0,
         len,
-        state: State {
-            source: Source {
-                from: 0,
-                end: 0,
-                len,
-                more: false,
-            },
-            out,
-        },
-    }
+        more: false,
+    };
+    let state = State { source, out };
+    Next { line, state }
 }
 
 // one read call behind a line of `len` bytes: at the end of the input the line counts if it is not empty, and after a failure it does not
@@ -89,29 +76,25 @@ fn fill(pipes: Pipes, input: &mut [u8], len: usize, out: Out) -> Next
     ensures { Waited len out input.new result }
 {
     if !out.ok {
-        return stop(false, len, out);
+        return stop(None, len, out);
     }
-    let g = text_pipes::ask(pipes, STDIN_FILENO, input);
-    if 0 < g.count {
-        return Next {
-            found: false,
-            len,
-            state: State {
-                source: Source {
-                    from: 0,
-                    end: g.count,
-                    len,
-                    more: true,
-                },
-                out,
-            },
-        };
+    match text_pipes::ask(pipes, STDIN_FILENO, input) {
+        Ok(end) if 0 < end => {
+            let source = Source {
+                from: 0,
+                end,
+                len,
+                more: true,
+            };
+            let state = State { source, out };
+            Next { line: None, state }
+        }
+        Ok(_) => stop((0 < len).then_some(len), len, out),
+        Err(why) => {
+            text_pipes::tell_unread(pipes, len, why);
+            stop(None, len, out)
+        }
     }
-    if g.ended {
-        return stop(0 < len, len, out);
-    }
-    text_pipes::tell_unread(pipes, len, g.error);
-    stop(false, len, out)
 }
 
 // the bytes that are there up to the next newline; where there is none, what is collected is written out, and one read call is made
@@ -123,21 +106,88 @@ pub fn turn(pipes: Pipes, input: &mut [u8], line: &mut [u8], buf: &[u8], s: Stat
     let o = s.out;
     let end = source.end;
     let p = take_part(&input[..end], source.from, line, source.len);
-    if p.ended {
+    if let Some(next) = p.next {
+        let source = Source {
+            from: next,
+            end,
+            len: 0,
+            more: true,
+        };
+        let state = State { source, out: o };
         return Next {
-            found: true,
-            len: p.len,
-            state: State {
-                source: Source {
-                    from: p.next,
-                    end,
-                    len: 0,
-                    more: true,
-                },
-                out: o,
-            },
+            line: Some(p.len),
+            state,
         };
     }
     let out = flush(pipes, buf, o);
     fill(pipes, input, p.len, out)
+}
+
+// who answers the lines of the input, each with a text
+pub trait Answers {
+    ghost text: { Self → List ℕ → List ℕ };
+
+    // for how many bytes the buffer of the texts has room, at least
+    ghost need: { Self → ℕ };
+
+    // collects the text of a line of `len` bytes; the lines behind it are answered alike
+    fn answer(&mut self, pipes: Pipes, line: &[u8], len: usize, buf: &mut [u8], start: Out) -> Out
+        requires { Ready (need self.old) line.now buf.old start.used }
+        ensures collects { Answered (text self.old) line.now len buf.old start buf.new result }
+        ensures same { (text self.new ≡ text self.old) × (need self.new ≡ need self.old) };
+}
+
+// one turn: the line that it found is answered
+fn step<A: Answers>(
+    pipes: Pipes,
+    input: &mut [u8],
+    line: &mut [u8],
+    buf: &mut [u8],
+    by: &mut A,
+    s: State,
+) -> State
+    requires { Within input.old s.source × Ready (A.need by.old) line.old buf.old s.out.used }
+    ensures advances { Advances (A.text by.old) input.old line.old buf.old s
+        input.new line.new buf.new result }
+    ensures same { (A.text by.new ≡ A.text by.old) × (A.need by.new ≡ A.need by.old) }
+{
+    let t = turn(pipes, input, line, buf, s);
+    let after = t.state;
+    if let Some(len) = t.line {
+        let source = after.source;
+        let out = by.answer(pipes, line, len, buf, after.out);
+        return State { source, out };
+    }
+    after
+}
+
+// All lines, turn by turn. Nothing says that the input ends, so the turns are counted: no run uses them up.
+fn all<A: Answers>(
+    pipes: Pipes,
+    input: &mut [u8],
+    line: &mut [u8],
+    buf: &mut [u8],
+    by: &mut A,
+) -> Out
+    requires { Ready (A.need by.old) line.old buf.old 0 }
+    ensures { (result.used ≤ length buf.new) × Stopped (A.text by.old) buf.new result }
+{
+    let mut s = begin();
+    for _ in 0..u64::MAX {
+        s = step(pipes, input, line, buf, by, s);
+        let over = !goes_on(s);
+        if over {
+            return s.out;
+        }
+    }
+    s.out
+}
+
+// all lines, and then all that is still collected is written
+pub fn run<A: Answers>(pipes: Pipes, input: &mut [u8], line: &mut [u8], buf: &mut [u8], by: &mut A)
+    requires { Ready (A.need by.old) line.old buf.old 0 }
+    ensures { Ran (A.text by.old) }
+{
+    let o = all(pipes, input, line, buf, by);
+    flush(pipes, buf, o);
 }

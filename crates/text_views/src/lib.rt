@@ -32,10 +32,8 @@ fn put_rows(buf: &mut [u8], at: usize, word: &[u8], list: &[u16], c: usize) -> u
 {
     let rows = count(list, c);
     let mut next = at;
-    let mut k = 0;
-    while k < rows {
+    for k in 0..rows {
         next = put_row(buf, next, word, list, c, k);
-        k += 1;
     }
     next
 }
@@ -77,7 +75,8 @@ pub fn put_verdict(buf: &mut [u8], at: usize, w: usize) -> usize
     requires { Room buf.old at (verdict_text w) }
     ensures { Puts buf.old at (verdict_text w) buf.new result }
 {
-    if w == 0 {
+    let agree = w == 0;
+    if agree {
         return put_word(buf, at, b"list and groups agree at every width\n");
     }
     let next = put_word(buf, at, b"list and groups differ at width ");

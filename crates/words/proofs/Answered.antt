@@ -16,7 +16,7 @@ use Rattle.words.specs.Replay.{moving, under, stays, after, replayed, replay}
 use Rattle.words.specs.Logs.{within, before, moved, good, first_bad, well_formed}
 use Rattle.words.specs.Answers.{success, refusal, entry_says}
 use Rattle.words.specs.Calls.{refuse, too_long, afterwards, list_afterwards, list_answer, list_leaves, table_answer, table_leaves, log_answer, log_leaves, replay_answer, replay_leaves, reader_takes}
-use Rattle.words.specs.declared.Entry.{Entry}
+use Rattle.std.specs.Prelude.{Some, None}
 use Rattle.words.proofs.Known.{A, C, ACAACACA}
 
 -- a read of 1,001 bytes
@@ -46,7 +46,7 @@ pub record Answered : Type 0 where
   pub replay_cut : (replay_answer ACAACACA (1 ∷ 1 ∷ 2 ∷ 1 ∷ []) 1 (lent 8) ≡ refusal 5 1) × (replay_answer ACAACACA (3 ∷ 9 ∷ 2 ∷ []) 1 (lent 8) ≡ refusal 5 0)
   pub replay-moved : replay_answer ACAACACA (1 ∷ 1 ∷ 2 ∷ 1 ∷ 3 ∷ 2 ∷ []) 1 (lent 8) ≡ refusal 5 1
   pub replay_order : (replay_answer ACAACACA (2 ∷ 3 ∷ 2 ∷ 1 ∷ 8 ∷ 7 ∷ []) 1 (lent 8) ≡ refusal 5 1) × (replay_answer ACAACACA (1 ∷ 2 ∷ 4 ∷ 1 ∷ 1 ∷ 5 ∷ []) 1 (lent 8) ≡ refusal 5 1) × (replay_answer ACAACACA (1 ∷ 1 ∷ 5 ∷ 1 ∷ 1 ∷ 2 ∷ []) 1 (lent 8) ≡ refusal 5 1)
-  pub reader : (reader_takes twice 1 ≡ record { entry = Entry.Move 1 1 2; at = 2 }) × (reader_takes (1 ∷ 2 ∷ []) 0 ≡ record { entry = Entry.Ended; at = 0 }) × (reader_takes twice 9 ≡ record { entry = Entry.Ended; at = 9 })
+  pub reader : (reader_takes twice 1 ≡ record { entry = Some (record { width = 1; name = 1; position = 2 }); at = 2 }) × (reader_takes (1 ∷ 2 ∷ []) 0 ≡ record { entry = None; at = 0 }) × (reader_takes twice 9 ≡ record { entry = None; at = 9 })
   pub reader_says : (entry_says (reader_takes (2 ∷ 8 ∷ 7 ∷ []) 0).entry ≡ record { number = 0; values = 2 ∷ 8 ∷ 7 ∷ [] }) × (entry_says (reader_takes twice 3).entry ≡ record { number = 0; values = [] })
 
 pub answered : Answered

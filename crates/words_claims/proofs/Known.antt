@@ -6,11 +6,11 @@ use lib.ListN.{replicate}
 use Rattle.words.specs.Range.{first, every, gather, cells}
 use Rattle.words.specs.Reads.{at, letter_of, letter, stretch, same, alike}
 use Rattle.words.specs.Repeats.{stands, writes, copies}
-use Rattle.words.specs.Answers.{success, both, refusal}
+use Rattle.words.specs.Answers.{success, both, refusal, refused_says, says}
 use Rattle.words.specs.Calls.{too_long}
 use Rattle.words.proofs.Known.{A, C}
 use Rattle.words_claims.specs.Claims.{outside, root, shorter, counted}
-use Rattle.words_claims.specs.Calls.{verdict, claimed_says, claim_answer, shown_of, motif_length, motif_from, motif}
+use Rattle.words_claims.specs.Calls.{verdict, verdict_says, claim_answer, shown_of, motif_length, motif_from, motif}
 
 abbrev N : ℕ
 N = 78
@@ -43,7 +43,7 @@ pub record Known : Type 0 where
   pub places : (motif_from ACACACAC 4 2 2 ≡ 3) × (motif ACACACAC 4 4 1 ≡ C ∷ A ∷ []) × (motif_from ACACACAC 4 4 1 ≡ 3) × (motif_from ACACACAC 4 2 1 ≡ 0) × (motif_from long 2 1 1000 ≡ 0)
 
 pub known : Known
-unfolding first every gather cells at letter_of letter stretch same alike stands writes copies success both refusal too_long outside root shorter counted verdict claimed_says claim_answer shown_of motif_length motif_from motif
+unfolding first every gather cells at letter_of letter stretch same alike stands writes copies success both refusal refused_says says too_long outside root shorter counted verdict verdict_says claim_answer shown_of motif_length motif_from motif
 known =
     record {
       four = (refl, refl, refl, refl);

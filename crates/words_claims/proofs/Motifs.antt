@@ -10,13 +10,15 @@ use borrow.Author.Tests.{ne_eqb}
 use Rattle.words.specs.Reads.{most, at, unread}
 use Rattle.words.proofs.Repeats.{repeat_is}
 use Rattle.words_claims.specs.Calls.{verdict, shown_of, motif_length, motif_from, motif}
-use Rattle.words_claims.specs.declared.Claimed.{Claimed}
+use Rattle.std.specs.Prelude.{Result, Ok, Err}
+use Rattle.words.specs.declared.Refusal.{Refusal}
+use Rattle.words_claims.specs.declared.Verdict.{Verdict}
 use Rattle.words_claims.proofs.Verdicts.{Inside, inside-fits}
 use Rattle.words_claims.proofs.Truth.{Says, told_if_so, unread_told}
 
 module _ (x : List ℕ) (i p e : ℕ) where
   -- by the verdict
-  pub length_of : (v : Claimed) → verdict x i p e ≡ v → motif_length x i p e ≡ shown_of p v
+  pub length_of : (v : Result Verdict Refusal) → verdict x i p e ≡ v → motif_length x i p e ≡ shown_of p v
   unfolding motif_length
   length_of v q = ap (shown_of p) q
 
@@ -25,12 +27,12 @@ module _ (x : List ℕ) (i p e : ℕ) where
   unfolding motif_length shown_of
   shown-inside l = go (verdict x i p e) ((told_if_so x i p e (verdict x i p e)).0 refl) l
     where
-      go : (v : Claimed) → Says x i p e v → 1 ≤ shown_of p v → (length x ≤ most) × Inside x i p e × (shown_of p v ≤ p)
-      go Claimed.Yes s l = let r = repeat_is x i p e s.1 in (s.0, (r.start, r.period, omega (arith, r.twice), r.stand.0), omega arith)
-      go (Claimed.Copies c) s l = absurd (omega arith)
-      go (Claimed.Shorter d) s l = (s.0, s.1, omega (arith, s.3))
-      go Claimed.Outside s l = absurd (omega arith)
-      go (Claimed.TooLong n) s l = absurd (omega arith)
+      go : (v : Result Verdict Refusal) → Says x i p e v → 1 ≤ shown_of p v → (length x ≤ most) × Inside x i p e × (shown_of p v ≤ p)
+      go (Ok Verdict.Yes) s l = let r = repeat_is x i p e s.1 in (s.0, (r.start, r.period, omega (arith, r.twice), r.stand.0), omega arith)
+      go (Ok (Verdict.Copies c)) s l = absurd (omega arith)
+      go (Ok (Verdict.Shorter d)) s l = (s.0, s.1, omega (arith, s.3))
+      go (Ok Verdict.Outside) s l = absurd (omega arith)
+      go (Err r) s l = absurd (omega arith)
 
   module _ (l : 1 ≤ motif_length x i p e) where
     pub shown-fits : (1 ≤ i) × (i + motif_length x i p e ≤ suc (length x))
@@ -56,7 +58,7 @@ module _ (x : List ℕ) (i p e : ℕ) where
   -- not one of the bytes is an N: a motif with one is told its count
   pub motif_read : (k : ℕ) → k < length (motif x i p e) → get_or (motif x i p e) k 0 ≢ unread
   unfolding at shown_of motif
-  motif_read k l n = let s = shown-inside some in omega (arith, some, length_of (Claimed.Copies 1) (unread_told x i p e s.0 s.1 k (omega (arith, here, s.2)) byte))
+  motif_read k l n = let s = shown-inside some in omega (arith, some, length_of (Ok (Verdict.Copies 1)) (unread_told x i p e s.0 s.1 k (omega (arith, here, s.2)) byte))
     where
       here : k < motif_length x i p e
       here = omega (arith, length-take (motif_length x i p e) (drop (motif_from x i p e) x))

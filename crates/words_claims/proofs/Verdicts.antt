@@ -15,7 +15,9 @@ use Rattle.words.specs.Calls.{too_long}
 use Rattle.words.proofs.Tests.{clash, fails, and_left, and_right, and_both, or_left, or_right, lt_or_ge}
 use Rattle.words_claims.specs.Claims.{outside, root, shorter, counted}
 use Rattle.words_claims.specs.Calls.{verdict}
-use Rattle.words_claims.specs.declared.Claimed.{Claimed}
+use Rattle.std.specs.Prelude.{Result, Ok, Err}
+use Rattle.words.specs.declared.Refusal.{Refusal}
+use Rattle.words_claims.specs.declared.Verdict.{Verdict}
 
 module _ (x : List ℕ) (i p e : ℕ) where
   -- a 0 among the three, or a last byte beyond the read
@@ -70,23 +72,23 @@ module _ (x : List ℕ) (i p e : ℕ) where
   counted_no n = not-true (counted x i p e) (fails (counted x i p e) (λ t. n (leb-true 2 e (and_left (leb 2 e) (eqb (copies x i p) e) t)) (eqb-true (copies x i p) e (and_right (leb 2 e) (eqb (copies x i p) e) t))))
 
   -- what is told
-  pub tells_long : most < length x → verdict x i p e ≡ Claimed.TooLong (length x)
+  pub tells_long : most < length x → verdict x i p e ≡ Err (Refusal.TooLong (length x))
   unfolding verdict too_long
   tells_long l = rw (lt-ltb most (length x) l)
 
   module _ (m : length x ≤ most) where
-    pub tells_outside : Outside → verdict x i p e ≡ Claimed.Outside
+    pub tells_outside : Outside → verdict x i p e ≡ Ok Verdict.Outside
     unfolding verdict too_long
     tells_outside o = rw (le-ltb most (length x) m, is_outside o)
 
-    pub tells_shorter : Inside → root x i p < p → verdict x i p e ≡ Claimed.Shorter (root x i p)
+    pub tells_shorter : Inside → root x i p < p → verdict x i p e ≡ Ok (Verdict.Shorter (root x i p))
     unfolding verdict too_long shorter
     tells_shorter n l = rw (le-ltb most (length x) m, is_inside n, lt-ltb (root x i p) p l)
 
-    pub tells_yes : Inside → p ≤ root x i p → 2 ≤ e → copies x i p ≡ e → verdict x i p e ≡ Claimed.Yes
+    pub tells_yes : Inside → p ≤ root x i p → 2 ≤ e → copies x i p ≡ e → verdict x i p e ≡ Ok Verdict.Yes
     unfolding verdict too_long shorter
     tells_yes n l two q = rw (le-ltb most (length x) m, is_inside n, le-ltb (root x i p) p l, counted_yes two q)
 
-    pub tells_copies : Inside → p ≤ root x i p → (2 ≤ e → copies x i p ≢ e) → verdict x i p e ≡ Claimed.Copies (copies x i p)
+    pub tells_copies : Inside → p ≤ root x i p → (2 ≤ e → copies x i p ≢ e) → verdict x i p e ≡ Ok (Verdict.Copies (copies x i p))
     unfolding verdict too_long shorter
     tells_copies n l q = rw (le-ltb most (length x) m, is_inside n, le-ltb (root x i p) p l, counted_no q)

@@ -2,12 +2,11 @@
 // laws and theorems, and this file the kind of answer that the call gives. What each case says in numbers stands in specs/Calls.antt.
 #![tactic(auto)]
 
-// What `claim` answers: yes; no, so many copies stand there; no, the motif is a shorter one of this length repeated; no, outside the read; or a refusal.
-#[derive(Drop)]
-pub enum Claimed {
+// What `claim` finds of a read that is not too long: yes; no, so many copies stand there; no, the motif is a shorter one of this length repeated; no, outside the read.
+#[derive(Clone, Copy, Debug, PartialEq, Eq)]
+pub enum Verdict {
     Yes,
     Copies(usize),
     Shorter(usize),
     Outside,
-    TooLong(usize),
 }

@@ -15,7 +15,7 @@ use Rattle.words.specs.Calls.{refuse, too_long, afterwards, list_afterwards}
 use Rattle.words.proofs.Known.{ACAACACA}
 use Rattle.words_index.specs.Index.{ahead, placed, first_loose, in_order, has_period, first_line, occurs, many_lines, copies_if, most_copies, entry_of, entry_size, entry_at, entry_if, periods_end, index, entry_count, first_entry}
 use Rattle.words_index.specs.Calls.{index_answer, index_leaves, list_index_answer, list_index_leaves, list_index_beside, lookup_gives}
-use Rattle.words_index.specs.declared.Looked.{Looked}
+use Rattle.std.specs.Prelude.{Some, None}
 
 -- R5's list, and its index
 abbrev R5 : List ℕ
@@ -36,7 +36,7 @@ pub record Known : Type 0 where
   pub passes : index (1 ∷ 0 ∷ 0 ∷ 9 ∷ 0 ∷ 65535 ∷ []) ≡ 0 ∷ 0 ∷ 2 ∷ 65535 ∷ []
   pub together : (list_index_answer ACAACACA 0 (lent 12) (lent 12) ≡ both 4 3) × (list_index_answer ACAACACA 0 (lent 11) (lent 11) ≡ refusal 3 4) × (list_index_answer ACAACACA 0 (lent 12) (lent 11) ≡ refusal 7 3) × (list_index_answer ACAACACA 2 [] [] ≡ refusal 2 2)
   pub slices : (list_index_beside ACAACACA 0 (lent 12) (lent 11) ≡ lent 11) × (list_index_leaves ACAACACA 0 (lent 12) (lent 11) ≡ lent 12) × (list_index_leaves ACAACACA 0 (lent 11) [] ≡ replicate 11 0) × (list_index_beside ACAACACA 0 (lent 11) (lent 1) ≡ lent 1)
-  pub found : (lookup_gives index5 2 ≡ Looked.Entry 1 1 2 2) × (lookup_gives index5 4 ≡ Looked.Nothing) × (lookup_gives (2 ∷ 5 ∷ 6 ∷ 7 ∷ 2 ∷ 8 ∷ 9 ∷ 9 ∷ 3 ∷ []) 2 ≡ Looked.Entry 0 5 6 7) × (lookup_gives (3 ∷ 0 ∷ 1 ∷ []) 3 ≡ Looked.Nothing)
+  pub found : (lookup_gives index5 2 ≡ Some (record { place = 1; first = 1; lines = 2; largest = 2 })) × (lookup_gives index5 4 ≡ None) × (lookup_gives (2 ∷ 5 ∷ 6 ∷ 7 ∷ 2 ∷ 8 ∷ 9 ∷ 9 ∷ 3 ∷ []) 2 ≡ Some (record { place = 0; first = 5; lines = 6; largest = 7 })) × (lookup_gives (3 ∷ 0 ∷ 1 ∷ []) 3 ≡ None)
 
 pub known : Known
 unfolding first every sum count largest gather cells at rows cell letter_of letter stretch same alike fits stands writes primitive leads copies row_if rows_at by_period line_of line_size period_cell start_of period_of copies_of line_at listed lines_at lines line_count in_mode within success both refusal refuse too_long afterwards list_afterwards ahead placed first_loose in_order has_period first_line occurs many_lines copies_if most_copies entry_of entry_size entry_at entry_if periods_end index entry_count first_entry index_answer index_leaves list_index_answer list_index_leaves list_index_beside lookup_gives

@@ -5,11 +5,12 @@ use mathlib.Core.List.{List, [], ◌∷◌}
 use lib.ListN.{replicate}
 use lib.IntN.{pos, negsuc}
 use Rattle.bits.specs.Bits.{bit, has}
+use Rattle.std.specs.Prelude.{Some, None}
 use Rattle.words.specs.Range.{first, every, sum, gather, cells, passing}
 use Rattle.words.specs.Reads.{at, letter_of, letter, fits as fits_in, stretch, same, alike}
 use Rattle.words.specs.Repeats.{stands, writes, primitive, repeats, leads, copies}
 use Rattle.words.specs.Logs.{within}
-use Rattle.words.specs.Answers.{success, refusal}
+use Rattle.words.specs.Answers.{success, refusal, side_number, refused_says}
 use Rattle.words.specs.Calls.{too_long}
 use Rattle.words.proofs.Known.{A, C}
 use Rattle.words_primers.specs.Bases.{set_in, set_of, lies, matches}
@@ -17,7 +18,7 @@ use Rattle.words_primers.specs.Primers.{foreign, first_foreign, lets_in, sits, p
 use Rattle.words_markers.specs.Fits.{has_motif, between, fits, fitting, fittings}
 use Rattle.words_markers.specs.Houses.{breaks, line_end, line_start, has_line, house_line, house_has}
 use Rattle.words_markers.specs.Sites.{none, several, only, seat, behind, seated, seats, only_one, site_in, site}
-use Rattle.words_markers.specs.Calls.{Score, unscored_says, score_of, score_at, score_answer, shown_for, shown}
+use Rattle.words_markers.specs.Calls.{Score, score_of, score_at, score_answer, shown_for, shown}
 use Rattle.words_markers.specs.declared.Shown.{Shown}
 
 abbrev G : ℕ
@@ -64,12 +65,12 @@ pub record Known : Type 0 where
   pub seats_told : (score_answer x (A ∷ A ∷ []) Ac Ac 0 ≡ refused 10 1) × (score_answer x Ac (A ∷ A ∷ []) Ac 0 ≡ refused 10 2) × (score_answer x Ac Ac Ac 0 ≡ refused 11 1) × (score_answer x TGG Ac Ac 0 ≡ refused 11 2)
   pub orders : (score_answer x TGG GTT Ac 0 ≡ refused 12 0) × (score_answer x GTT GTT Ac 0 ≡ refused 12 0) × (score_answer x (G ∷ T ∷ T ∷ A ∷ []) (T ∷ A ∷ []) Ac 0 ≡ refused 12 0) × (score_answer x (G ∷ T ∷ []) (T ∷ A ∷ []) Ac 0 ≡ refused 13 0)
   pub long : score_answer (replicate 1001 A) [] (85 ∷ []) [] 0 ≡ refused 1 1001
-  pub house : (shown x (C ∷ A ∷ newline ∷ A ∷ C ∷ []) 1 GTT TGG Ac ≡ Shown.House 3) × (shown x (C ∷ A ∷ newline ∷ A ∷ C ∷ newline ∷ []) 1 GTT TGG Ac ≡ Shown.House 3) × (shown x (newline ∷ A ∷ C ∷ newline ∷ []) 1 GTT TGG Ac ≡ Shown.House 1)
-  pub other : (shown x (C ∷ A ∷ newline ∷ A ∷ C ∷ []) 0 GTT TGG Ac ≡ Shown.Read 3) × (shown x (C ∷ A ∷ newline ∷ A ∷ C ∷ []) 2 GTT TGG Ac ≡ Shown.Read 3) × (shown x (A ∷ C ∷ 13 ∷ newline ∷ []) 0 GTT TGG Ac ≡ Shown.Read 3) × (shown x [] 0 GTT TGG Ac ≡ Shown.Read 3)
-  pub nothing : (shown x Ac 0 TGG GTT Ac ≡ Shown.Nothing) × (shown x [] 0 GTT TGG [] ≡ Shown.Nothing)
+  pub house : (shown x (C ∷ A ∷ newline ∷ A ∷ C ∷ []) 1 GTT TGG Ac ≡ Some (Shown.House 3)) × (shown x (C ∷ A ∷ newline ∷ A ∷ C ∷ newline ∷ []) 1 GTT TGG Ac ≡ Some (Shown.House 3)) × (shown x (newline ∷ A ∷ C ∷ newline ∷ []) 1 GTT TGG Ac ≡ Some (Shown.House 1))
+  pub other : (shown x (C ∷ A ∷ newline ∷ A ∷ C ∷ []) 0 GTT TGG Ac ≡ Some (Shown.Read 3)) × (shown x (C ∷ A ∷ newline ∷ A ∷ C ∷ []) 2 GTT TGG Ac ≡ Some (Shown.Read 3)) × (shown x (A ∷ C ∷ 13 ∷ newline ∷ []) 0 GTT TGG Ac ≡ Some (Shown.Read 3)) × (shown x [] 0 GTT TGG Ac ≡ Some (Shown.Read 3))
+  pub nothing : (shown x Ac 0 TGG GTT Ac ≡ None) × (shown x [] 0 GTT TGG [] ≡ None)
 
 pub known : Known
-unfolding bit has first every sum gather cells passing at letter_of letter fits_in stretch same alike stands writes primitive repeats leads copies within success refusal too_long set_in set_of lies matches foreign first_foreign lets_in sits places has_motif between fits fitting fittings breaks line_end line_start has_line house_line house_has none several only seat behind seated seats only_one site_in site unscored_says score_of score_at score_answer shown_for shown
+unfolding bit has first every sum gather cells passing at letter_of letter fits_in stretch same alike stands writes primitive repeats leads copies within success refusal too_long set_in set_of lies matches foreign first_foreign lets_in sits places has_motif between fits fitting fittings breaks line_end line_start has_line house_line house_has none several only seat behind seated seats only_one site_in site side_number refused_says score_of score_at score_answer shown_for shown
 known =
     record {
       scored = (refl, refl);

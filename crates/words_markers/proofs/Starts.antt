@@ -7,6 +7,7 @@ use native.Mathlib.Omega.{arith}
 use lib.ListN.{length, take, drop}
 use lib.Dec.{leb}
 use borrow.Author.Tests.{leb-true, le-leb}
+use Rattle.std.specs.Prelude.{Ok, Err}
 use Rattle.words.specs.Range.{first, passing}
 use Rattle.words.specs.Repeats.{primitive, leads, copies}
 use Rattle.words.proofs.Tests.{and_both, clash, same_test}
@@ -16,8 +17,7 @@ use Rattle.words.proofs.Repeats.{Repeat, repeat_is, is_repeat, is_primitive}
 use Rattle.words.proofs.Lines.{copies_repeat}
 use Rattle.words_markers.specs.Fits.{has_motif, fitting, fittings}
 use Rattle.words_markers.specs.Sites.{only, only_one}
-use Rattle.words_markers.specs.declared.Unscored.{Unscored}
-use Rattle.words_markers.specs.declared.Site.{Site}
+use Rattle.words.specs.declared.Refusal.{Refusal}
 use Rattle.words_markers.proofs.Seating.{none_yes, none_no, several_yes, several_no}
 use Rattle.words_markers.proofs.Fitting.{has_motif_is, is_has_motif, Fits, fits-inside, fits-fitting, fitting_is, fitting-not, motif-primitive}
 
@@ -80,20 +80,20 @@ module _ (x m : List ℕ) (lo hi i : ℕ) where
 
 -- the only one of a list, by its length
 module _ (l : List ℕ) where
-  pub only_none : length l ≡ 0 → only_one l ≡ Site.Not Unscored.NoRepeat
+  pub only_none : length l ≡ 0 → only_one l ≡ Err Refusal.NoRepeat
   unfolding only_one
   only_none e = rw (none_yes l e)
 
-  pub only-several : 1 < length l → only_one l ≡ Site.Not Unscored.Several
+  pub only-several : 1 < length l → only_one l ≡ Err Refusal.Several
   unfolding only_one
   only-several h = rw (none_no l (omega arith), several_yes l h)
 
-  pub only_at : length l ≡ 1 → only_one l ≡ Site.At (only l)
+  pub only_at : length l ≡ 1 → only_one l ≡ Ok (only l)
   unfolding only_one
   only_at e = rw (none_no l (omega (arith, e)), several_no l (omega (arith, e)))
 
 module _ (x m : List ℕ) (lo hi : ℕ) where
-  pub none_start : ((i : ℕ) → fitting x m lo hi i ≡ false) → only_one (fittings x m lo hi) ≡ Site.Not Unscored.NoRepeat
+  pub none_start : ((i : ℕ) → fitting x m lo hi i ≡ false) → only_one (fittings x m lo hi) ≡ Err Refusal.NoRepeat
   unfolding fittings
   none_start h =
       let e : passing (fitting x m lo hi) (length x) 1 ≡ [] = passing_stop (fitting x m lo hi) 0 (length x) (omega arith) (λ k a b. h k) ∙ passing-none (fitting x m lo hi) 1 in
@@ -137,20 +137,20 @@ module _ (x m : List ℕ) (lo hi : ℕ) where
         let q : j + (suc (length x) - j) ≡ suc (length x) = omega arith in
         passing_found (fitting x m lo hi) (suc (length x) - j) j (omega (arith, n, q, e)) ∙ rw (n, q) refl
 
-    pub none_found : next lo ≡ suc (length x) → only_one (fittings x m lo hi) ≡ Site.Not Unscored.NoRepeat
+    pub none_found : next lo ≡ suc (length x) → only_one (fittings x m lo hi) ≡ Err Refusal.NoRepeat
     none_found e = only_none (fittings x m lo hi) (ap length (all ∙ none_left lo (omega arith) inside e))
 
     module _ (e : next lo < suc (length x)) where
       later : lo ≤ suc (next lo)
       later = omega (arith, (found (fitting x m 0 hi) (suc (length x) - lo) lo).low)
 
-      pub more_found : next (suc (next lo)) < suc (length x) → only_one (fittings x m lo hi) ≡ Site.Not Unscored.Several
+      pub more_found : next (suc (next lo)) < suc (length x) → only_one (fittings x m lo hi) ≡ Err Refusal.Several
       more_found l =
           let q = ap length (all ∙ one_left lo (omega arith) inside e ∙ ap (λ (t : List ℕ). next lo ∷ t) (one_left (suc (next lo)) later (omega arith) l)) in
           only-several (fittings x m lo hi) (omega (arith, q))
 
-      pub one_found : next (suc (next lo)) ≡ suc (length x) → only_one (fittings x m lo hi) ≡ Site.At (next lo)
+      pub one_found : next (suc (next lo)) ≡ suc (length x) → only_one (fittings x m lo hi) ≡ Ok (next lo)
       unfolding only
       one_found l =
           let q = all ∙ one_left lo (omega arith) inside e ∙ ap (λ (t : List ℕ). next lo ∷ t) (none_left (suc (next lo)) later (omega arith) l) in
-          only_at (fittings x m lo hi) (omega (arith, ap length q)) ∙ ap (λ (t : List ℕ). Site.At (only t)) q
+          only_at (fittings x m lo hi) (omega (arith, ap length q)) ∙ ap (λ (t : List ℕ). Ok (only t)) q

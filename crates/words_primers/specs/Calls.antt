@@ -1,12 +1,9 @@
--- Document 02, item 6: for `find_primer` and `reverse_complement` the answer and what is left in the lent slice, for every input there is; and what each case of an answer
--- says in the document's numbers.
+-- Document 02, item 6: for `find_primer` and `reverse_complement` the answer and what is left in the lent slice, for every input there is.
 use Rattle.std.specs.Prelude.{ℕ, not, List, length, ltb}
 use Rattle.words.specs.Logs.{within}
-use Rattle.words.specs.Answers.{Answer, success, refusal}
+use Rattle.words.specs.Answers.{Answer, success}
 use Rattle.words.specs.Calls.{refuse, too_long, afterwards, list_afterwards}
 use Rattle.words_primers.specs.Primers.{longest, first_foreign, places, reverse_complement}
-use Rattle.words_primers.specs.declared.Placed.{Placed}
-use Rattle.words_primers.specs.declared.Turned.{Turned}
 
 -- refusal 8, the primer's length, and then 9, a foreign letter; else what comes later
 unfoldable pub judged : List ℕ → Answer → Answer
@@ -35,16 +32,3 @@ turn_answer u out =
 
 unfoldable pub turn_leaves : List ℕ → List ℕ → List ℕ
 turn_leaves u out = afterwards (turn_answer u out) (reverse_complement u) out
-
-unfoldable pub placed_says : Placed → Answer
-placed_says (Placed.Places c) = success c
-placed_says (Placed.TooLong n) = refusal 1 n
-placed_says (Placed.BadLength m) = refusal 8 m
-placed_says (Placed.Foreign k) = refusal 9 k
-placed_says (Placed.ListFull c) = refusal 3 c
-
-unfoldable pub turned_says : Turned → Answer
-turned_says (Turned.Letters c) = success c
-turned_says (Turned.BadLength m) = refusal 8 m
-turned_says (Turned.Foreign k) = refusal 9 k
-turned_says (Turned.NoRoom m) = refusal 4 m

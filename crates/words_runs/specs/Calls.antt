@@ -1,11 +1,9 @@
--- Document 02, item 3: the answer of `runs` and what it leaves in the lent slice, for every input there is; and what each case of its answer says in the
--- document's numbers.
+-- Document 02, item 3: the answer of `runs` and what it leaves in the lent slice, for every input there is.
 use Rattle.std.specs.Prelude.{ℕ, List, length, ltb}
 use Rattle.words.specs.Rows.{rows}
-use Rattle.words.specs.Answers.{Answer, success, refusal}
+use Rattle.words.specs.Answers.{Answer, success}
 use Rattle.words.specs.Calls.{refuse, too_long, list_afterwards}
 use Rattle.words_runs.specs.Runs.{run_size, runs, run_count}
-use Rattle.words_runs.specs.declared.RunsListed.{RunsListed}
 
 -- the runs of a read x, written to a slice
 unfoldable pub runs_answer : List ℕ → List ℕ → Answer
@@ -16,8 +14,3 @@ runs_answer x out =
 
 unfoldable pub runs_leaves : List ℕ → List ℕ → List ℕ
 runs_leaves x out = list_afterwards (runs_answer x out) (runs x) out
-
-unfoldable pub runs_listed_says : RunsListed → Answer
-runs_listed_says (RunsListed.Runs c) = success c
-runs_listed_says (RunsListed.TooLong n) = refusal 1 n
-runs_listed_says (RunsListed.ListFull c) = refusal 3 c

@@ -6,7 +6,4 @@ use Rattle.row_matches.specs.Matching.{Passes}
 use Rattle.bench_accords.proofs.agree_run.Given as goal
 
 abbrev pub invariant-loop-i : goal.invariant-loop-i
-invariant-loop-i l = (l.a ≤ l.i) × (l.i - l.a ≤ suc l.b - l.a) × Passes (gather (line_by l.p l.b) (l.i - l.a) l.a) l.list l.initial.m l.m
-
-abbrev pub decreases-loop-i : goal.decreases-loop-i
-decreases-loop-i l = suc l.b - l.i
+invariant-loop-i l = (l.i - l.a ≤ suc l.b - l.a) × Passes (gather (line_by l.p l.b) (l.i - l.a) l.a) l.list l.initial.m l.m

@@ -7,39 +7,30 @@ use Rattle.bench_agrees.proofs.copies.Goals as goal
 
 pub returns-then-gap-p : goal.returns-then-gap-p
 returns-then-gap-p c =
-    let v = c in
-    let s = v in
-    let l = v.loop-k in
+    let l = c.loop-k in
     sym
-    (copies_found s.args.table.now s.args.p s.args.i l.k c.loop-k-test.true l.invariant.3
-    (stops_yes s.args.table.now s.args.p s.args.i l.k l.j l.invariant.2 (λ q. c.if-gap-p.true (c.gap.ensures ∙ q))))
+    (copies_found c.args.links.now.table.now c.args.p c.args.i l.k c.loop-k-test.true l.invariant.2
+    (stops_yes c.args.links.now.table.now c.args.p c.args.i l.k l.j l.invariant.1 (λ q. c.if-gap-p.true (c.gap.ensures ∙ q))))
 
 pub overflow_add-j : goal.overflow_add-j
 overflow_add-j c =
-    let u = c in
-    let v = u in
-    let s = v in
-    let l = v.loop-k in
+    let l = c.loop-k in
     omega (
       arith,
-      chain-inside s.args.table.now s.args.p s.args.i l.j (sym u.gap.ensures ∙ c.if-gap-p.false) l.invariant.1,
+      chain-inside c.args.links.now.table.now c.args.p c.args.i l.j (sym c.gap.ensures ∙ c.if-gap-p.false) l.invariant.0,
     )
 
 pub loop-k-preserved : goal.loop-k-preserved
 loop-k-preserved c =
-    let u = c in
-    let v = u in
-    let s = v in
-    let l = v.loop-k in (
-      omega arith,
-      chain-inside s.args.table.now s.args.p s.args.i l.j (sym u.gap.ensures ∙ c.if-gap-p.false) l.invariant.1,
-      omega (arith, l.invariant.2),
-      missed_more _ _ _ _ l.invariant.3 (stops_no s.args.table.now s.args.p s.args.i l.k l.j l.invariant.2
-          (sym u.gap.ensures ∙ c.if-gap-p.false)) refl,
+    let l = c.loop-k in (
+      chain-inside c.args.links.now.table.now c.args.p c.args.i l.j (sym c.gap.ensures ∙ c.if-gap-p.false) l.invariant.0,
+      omega (arith, l.invariant.1),
+      missed_more _ _ _ _ l.invariant.2 (stops_no c.args.links.now.table.now c.args.p c.args.i l.k l.j l.invariant.1
+          (sym c.gap.ensures ∙ c.if-gap-p.false)) refl,
     )
 
 pub returns : goal.returns
 returns c =
-    let s = c in
     let l = c.loop-k in
-    sym (copies_ended s.args.table.now s.args.p s.args.i l.k (omega arith) l.invariant.3)
+    let e = copies_ended c.args.links.now.table.now c.args.p c.args.i l.k (omega arith) l.invariant.2 in
+    omega (arith, e)

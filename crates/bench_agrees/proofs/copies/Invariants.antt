@@ -1,5 +1,5 @@
 -- `bench_agrees::copies` meets its contract: the places passed are starts, each with the next one in the table. Assumes nothing.
-use Prim.Native.Nat.{◌≤◌, ◌-◌, ◌+◌, ◌*◌}
+use Prim.Native.Nat.{◌≤◌, ◌+◌, ◌*◌}
 use mathlib.Core.Path.{◌≡◌}
 use lib.ListN.{length}
 use Rattle.words.proofs.Searches.{Missed}
@@ -7,7 +7,4 @@ use Rattle.bench_agrees.proofs.Gaps.{stops}
 use Rattle.bench_agrees.proofs.copies.Given as goal
 
 abbrev pub invariant-loop-k : goal.invariant-loop-k
-invariant-loop-k l = (l.k ≤ length l.table) × (l.j ≤ length l.table) × (l.j ≡ l.i + l.p * l.k) × Missed (stops l.table l.p l.i) 0 l.k
-
-abbrev pub decreases-loop-k : goal.decreases-loop-k
-decreases-loop-k l = length l.table - l.k
+invariant-loop-k l = (l.j ≤ length l.links.table.now) × (l.j ≡ l.i + l.p * l.k) × Missed (stops l.links.table.now l.p l.i) 0 l.k

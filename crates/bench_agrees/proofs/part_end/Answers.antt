@@ -2,40 +2,28 @@
 use Prim.Native.Nat.{◌-◌}
 use mathlib.Core.Path.{refl, sym, ◌∙◌}
 use native.Mathlib.Omega.{arith}
-use Rattle.words.specs.Rows.{rows}
+use Rattle.words.specs.Rows.{rows, cell}
 use Rattle.words.proofs.Searches.{missed_more, first_hit, first_ended}
 use Rattle.bench_agrees.specs.Parts.{differs, part_end}
 use Rattle.bench_agrees.proofs.Rows.{differs_yes, differs_no}
 use Rattle.bench_agrees.proofs.part_end.Goals as goal
 
 pub returns-then-wide-w : goal.returns-then-wide-w
-unfolding part_end
+unfolding part_end cell
 returns-then-wide-w c =
-    let t = c in
-    let u = t in
-    let v = u in
-    let s = v in
-    let l = v.loop-k in
+    let l = c.loop-k in
     sym
-    (first_hit (differs s.args.c s.args.list.now s.args.j s.args.w) (rows s.args.c s.args.list.now - s.args.from)
-    s.args.from l.k l.invariant.2 l.invariant.0 (omega arith) (differs_yes _ _ _ _ (t.wide.ensures ∙ u.cell.ensures) c.if-wide-w.true))
+    (first_hit (differs c.args.c c.args.list.now c.args.j c.args.w) (rows c.args.c c.args.list.now - c.args.from)
+    c.args.from l.k l.invariant (omega arith) (omega arith) (differs_yes _ _ _ _ (c.wide.ensures ∙ c.cell.ensures 0) c.if-wide-w.true))
 
 pub loop-k-preserved : goal.loop-k-preserved
-loop-k-preserved c =
-    let t = c in
-    let u = t in
-    let l = u.loop-k in (
-      omega arith,
-      omega arith,
-      missed_more _ _ _ _ l.invariant.2 (differs_no _ _ _ _ (t.wide.ensures ∙ u.cell.ensures) c.if-wide-w.false) refl,
-    )
+unfolding cell
+loop-k-preserved c = missed_more _ _ _ _ c.loop-k.invariant (differs_no _ _ _ _ (c.wide.ensures ∙ c.cell.ensures 0) c.if-wide-w.false) refl
 
 pub returns : goal.returns
 unfolding part_end
 returns c =
-    let u = c in
-    let s = u in
-    let l = u.loop-k in
-    sym
-    (first_ended (differs s.args.c s.args.list.now s.args.j s.args.w) (rows s.args.c s.args.list.now - s.args.from)
-    s.args.from l.k l.invariant.2 (omega arith))
+    let l = c.loop-k in
+    let e = first_ended (differs c.args.c c.args.list.now c.args.j c.args.w) (rows c.args.c c.args.list.now - c.args.from)
+    c.args.from l.k l.invariant (omega arith) in
+    omega (arith, e)

@@ -6,8 +6,7 @@ use Rattle.bench_agrees.proofs.part_from.Goals as goal
 
 pub part-requires : goal.part-requires
 part-requires c =
-    let s = c in
-    rw c.part_end-end.ensures (cut_order _ _ _ _ _, cut_rows _ _ _ _ _ s.requires.1)
+    rw c.part_end-end.ensures (cut_order _ _ _ _ _, cut_rows _ _ _ _ _ c.requires.1)
 
 pub returns : goal.returns
 unfolding part_from

@@ -5,7 +5,4 @@ use Rattle.bench_links.proofs.Pass.{Linking}
 use Rattle.bench_links.proofs.link.Given as goal
 
 abbrev pub invariant-loop-i : goal.invariant-loop-i
-invariant-loop-i l = (l.i ≤ length l.table) × (length l.table ≤ 1000) × Linking l.table l.head l.after l.i
-
-abbrev pub decreases-loop-i : goal.decreases-loop-i
-decreases-loop-i l = l.i
+invariant-loop-i l = (length l.table ≤ 1000) × Linking l.table l.head l.after l.i

@@ -1,20 +1,19 @@
 -- `bench_reads::show_read` meets its contract: the log and the runs of the read are made, whole.
-use Rattle.std.proofs.Common.{◌*◌, ◌≤◌, ◌≡◌, ℕ, sym, ap, length, take, arith}
+use Rattle.std.proofs.Common.{◌*◌, ◌≤◌, ◌≡◌, ℕ, refl, sym, length, take, arith}
 use lib.ListN.{length-replicate}
 use lib.Seq.{length-take-le}
 use Rattle.words.specs.Moves.{log}
 use Rattle.words_runs.specs.Runs.{runs}
-use Rattle.call_answers.specs.declared.Answer.{Answer as Plain}
-use Rattle.bench_reads.proofs.Made.{log-room, runs-room, log_whole, runs_whole}
+use Rattle.bench_reads.proofs.Made.{log-room, runs-room, log_made, runs_made, log_whole, runs_whole}
 use Rattle.bench_reads.proofs.show_read.Goals.{After-move_size, After-run_size}
 use Rattle.bench_reads.proofs.show_read.Goals as goal
 
 -- the front that is cut off the log's array is the log, and lies in it
 moves-made : (c : After-move_size) →
-    (take (c.move_size.result * c.logged-found.result.value) c.log.new.out ≡ log c.args.read.now)
-    × (c.move_size.result * c.logged-found.result.value ≤ length c.log.new.out)
+    (take (c.move_size.result * c.unwrap-found.result) c.log.new.out ≡ log c.args.read.now)
+    × (c.move_size.result * c.unwrap-found.result ≤ length c.log.new.out)
 moves-made c =
-    rw c.move_size.ensures (log_whole _ _ c.requires.0 (ap (λ (a : Plain). a.value) c.logged-found.ensures) log-room c.log.ensures.0 c.log.ensures.1)
+    rw c.move_size.ensures (log_whole _ _ c.requires.0 c.unwrap-found.ensures log-room c.log.ensures.0 c.log.ensures.1)
 
 pub overflow_mul-moves : goal.overflow_mul-moves
 overflow_mul-moves c =
@@ -22,11 +21,11 @@ overflow_mul-moves c =
 
 -- and so is the front of the runs' array
 runs-made : (c : After-run_size) →
-    (take (c.run_size.result * c.runs_listed-maximal.result.value) c.runs.new.out ≡ runs c.args.read.now)
-    × (c.run_size.result * c.runs_listed-maximal.result.value ≤ length c.runs.new.out)
+    (take (c.run_size.result * c.unwrap-maximal.result) c.runs.new.out ≡ runs c.args.read.now)
+    × (c.run_size.result * c.unwrap-maximal.result ≤ length c.runs.new.out)
 runs-made c =
     rw c.run_size.ensures
-    (runs_whole _ _ c.requires.0 (ap (λ (a : Plain). a.value) c.runs_listed-maximal.ensures) runs-room c.requires.3 c.runs.ensures.0 c.runs.ensures.1)
+    (runs_whole _ _ c.requires.0 c.unwrap-maximal.ensures runs-room c.requires.3 c.runs.ensures.0 c.runs.ensures.1)
 
 pub overflow_mul-ran : goal.overflow_mul-ran
 overflow_mul-ran c =
@@ -55,3 +54,9 @@ show_lists-requires c =
       },
       c.requires.4,
     )
+
+pub unwrap-found-requires : goal.unwrap-found-requires
+unwrap-found-requires c = rw (log_made _ _ c.requires.0 log-room c.log.ensures.0) refl
+
+pub unwrap-maximal-requires : goal.unwrap-maximal-requires
+unwrap-maximal-requires c = rw (runs_made _ _ c.requires.0 runs-room c.requires.3 c.runs.ensures.0) refl

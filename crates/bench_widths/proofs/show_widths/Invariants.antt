@@ -1,5 +1,5 @@
--- The loop of `bench_widths::show_widths`: after w turns the first w widths are collected, and the names are the table of the next one.
-use Rattle.std.proofs.Common.{◌+◌, ◌≤◌, ◌-◌}
+-- The loop of `bench_widths::show_widths`: the widths before w are collected, and the names are the table of width w.
+use Rattle.std.proofs.Common.{◌-◌}
 use Rattle.words.specs.Range.{gather}
 use Rattle.bench_shows.specs.Collecting.{Collects}
 use Rattle.bench_widths.specs.Views.{width_view}
@@ -8,8 +8,5 @@ use Rattle.bench_widths.proofs.show_widths.Given as goal
 
 abbrev pub invariant-loop-w : goal.invariant-loop-w
 invariant-loop-w l =
-    (l.w ≤ l.top) × Reached l.read (l.w + 1) l.p × Replays l.read l.log (l.w + 1) l.name l.mark l.lead l.part l.from
-    × Collects l.initial.buf l.initial.p.out (gather (width_view l.read) l.w 1) l.buf l.p.out
-
-abbrev pub decreases-loop-w : goal.decreases-loop-w
-decreases-loop-w l = l.top - l.w
+    Reached l.read l.w l.p × Replays l.read l.log l.w l.r.name l.r.mark l.r.lead l.r.part l.from
+    × Collects l.initial.buf l.initial.p.out (gather (width_view l.read) (l.w - 1) 1) l.buf l.p.out

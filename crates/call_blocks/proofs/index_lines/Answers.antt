@@ -13,26 +13,19 @@ loop-k-init c =
 
 pub add_entry-requires : goal.add_entry-requires
 add_entry-requires c =
-    let p = c in
-    let t = p in
-    let I = t.loop-k.invariant in
-    omega (arith, below_few _ _ _ _ (omega (arith, t.loop-k-test.true, I.0)) p.period_of-p.ensures I.4.count)
+    let I = c.loop-k.invariant in
+    omega (arith, below_few _ _ _ _ (omega (arith, c.loop-k-test.true, I.0)) c.period_of-p.ensures I.4.count)
 
 pub overflow_add-m : goal.overflow_add-m
 overflow_add-m c =
-    let p = c in
-    let t = p in
-    let I = t.loop-k.invariant in
-    omega (arith, below_few _ _ _ _ (omega (arith, t.loop-k-test.true, I.0)) p.period_of-p.ensures I.4.count)
+    let I = c.loop-k.invariant in
+    omega (arith, below_few _ _ _ _ (omega (arith, c.loop-k-test.true, I.0)) c.period_of-p.ensures I.4.count)
 
 pub loop-k-preserved : goal.loop-k-preserved
 loop-k-preserved c =
-    let a = c in
-    let p = a in
-    let b = p in
-    let B = b.block_at-b.ensures in
-    let I = b.loop-k.invariant in
-    (I.0, omega (arith, I.0, B.high), I.2, opens_on _ I.2 _ _ _ I.3 B, indexing_more _ I.2 _ _ _ I.3 B _ _ _ _ _ p.period_of-p.ensures I.4 a.add_entry.ensures)
+    let B = c.block_at-end.ensures in
+    let I = c.loop-k.invariant in
+    (I.0, omega (arith, I.0, B.high), I.2, opens_on _ I.2 _ _ _ I.3 B, indexing_more _ I.2 _ _ _ I.3 B _ _ _ _ _ c.period_of-p.ensures I.4 c.add_entry.ensures)
 
 pub returns : goal.returns
 returns c =

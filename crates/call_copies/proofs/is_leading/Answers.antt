@@ -10,9 +10,9 @@ pub returns-then-start-period : goal.returns-then-start-period
 unfolding leads
 returns-then-start-period c = let a = c.args in rw (le-leb a.start a.period (omega arith))
 
-pub returns : goal.returns
+pub returns-else-start-period : goal.returns-else-start-period
 unfolding leads
-returns c =
+returns-else-start-period c =
     let a = c.args in
     let back : a.start - a.period + a.period ≡ a.start = omega arith in
     rw (lt-leb a.start a.period (omega arith), c.stand_again.ensures, back)

@@ -7,6 +7,6 @@ pub returns-then-k-eq0 : goal.returns-then-k-eq0
 unfolding follows
 returns-then-k-eq0 c = simp (eq-eqb _ _ c.if-k-eq0.true)
 
-pub returns : goal.returns
+pub returns-else-k-eq0 : goal.returns-else-k-eq0
 unfolding follows
-returns c = simp (ne_eqb _ _ c.if-k-eq0.false) c.ordered.ensures
+returns-else-k-eq0 c = simp (ne_eqb _ _ c.if-k-eq0.false) c.ordered.ensures

@@ -9,9 +9,8 @@ use Rattle.call_judges.proofs.well_formed.Goals as goal
 
 pub overflow_mul-result : goal.overflow_mul-result
 overflow_mul-result c =
-    let s = c in
-    let e : c.move_size.result * s.args.k ≡ move_size * first_bad s.args.n s.args.log.now = rw (c.move_size.ensures, s.requires) refl in
-    omega (arith, e, bad_fits s.args.n s.args.log.now)
+    let e : c.move_size.result * c.args.k ≡ move_size * first_bad c.args.n c.args.log.now = rw (c.move_size.ensures, c.requires) refl in
+    omega (arith, e, bad_fits c.args.n c.args.log.now)
 
 pub returns : goal.returns
 returns c = rw (c.move_size.ensures, c.requires) (formed_test _ _)

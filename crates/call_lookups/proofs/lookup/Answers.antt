@@ -1,21 +1,21 @@
--- `call_lookups::lookup` meets its contract: the numbers of the entry that was found, if one was. Assumes nothing.
+-- `call_lookups::lookup` meets its contract: the first entry of the period is given, and none where the loop meets none. Assumes nothing.
+use mathlib.Core.Path.{sym, ◌∙◌}
+use Prim.Native.Nat.{◌≤◌, ◌<◌}
 use native.Mathlib.Omega.{arith}
-use Rattle.call_lookups.proofs.Looking.{cell_there, looked_entry, looked-none}
+use Rattle.words.specs.Rows.{rows}
+use Rattle.words_index.specs.Index.{entry_size}
+use Rattle.call_lookups.proofs.Looking.{entry_here, entry_none, looked_entry, looked-none}
 use Rattle.call_lookups.proofs.lookup.Goals as goal
 
-pub number-requires : goal.number-requires
-number-requires c = (cell_there _ (omega arith), omega (arith, c.entries.ensures, c.if-k-entries.true))
-
-pub number-requires-then-k-entries : goal.number-requires-then-k-entries
-number-requires-then-k-entries c = let d = c in (cell_there _ (omega arith), omega (arith, d.entries.ensures, d.if-k-entries.true))
-
-pub number-requires-then-k-entries-2 : goal.number-requires-then-k-entries-2
-number-requires-then-k-entries-2 c = let d = c in (cell_there _ (omega arith), omega (arith, d.entries.ensures, d.if-k-entries.true))
-
-pub returns-then-k-entries : goal.returns-then-k-entries
-returns-then-k-entries c =
-    let d = c in
-    looked_entry _ _ _ d.entry_of-k.ensures _ _ _ (omega (arith, d.entries.ensures, d.if-k-entries.true)) c.number.ensures c.number-then-k-entries.ensures c.number-then-k-entries-2.ensures
+pub returns-then-here : goal.returns-then-here
+returns-then-here c =
+    let i = c.loop-k.invariant in
+    let inside : c.loop-k.k < rows entry_size c.args.index.now = omega (arith, i.0, c.loop-k-test.true) in
+    let e = entry_here _ _ _ i.1 inside (sym c.number.ensures ∙ c.if-here.true) in
+    looked_entry _ _ _ e _ _ _ inside c.number-then-here.ensures c.number-then-here-2.ensures c.number-then-here-3.ensures
 
 pub returns : goal.returns
-returns c = looked-none _ _ _ c.entry_of-k.ensures (omega (arith, c.entries.ensures, c.if-k-entries.false))
+returns c =
+    let i = c.loop-k.invariant in
+    let past : rows entry_size c.args.index.now ≤ c.loop-k.k = omega (arith, i.0, c.loop-k-test.false) in
+    looked-none _ _ _ (entry_none _ _ _ i.1 (omega (arith, i.0, c.loop-k.auto.k-end)) past) past

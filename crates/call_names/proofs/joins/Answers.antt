@@ -7,6 +7,6 @@ pub returns-then-f-gt0 : goal.returns-then-f-gt0
 unfolding joined
 returns-then-f-gt0 c = rw (lt-ltb _ _ c.if-f-gt0.true, ← c.load.ensures, ← c.load-then-f-gt0.ensures)
 
-pub returns : goal.returns
+pub returns-else-f-gt0 : goal.returns-else-f-gt0
 unfolding joined
-returns c = rw (le-ltb _ _ c.if-f-gt0.false)
+returns-else-f-gt0 c = rw (le-ltb _ _ c.if-f-gt0.false)

@@ -5,15 +5,12 @@ use Rattle.call_names.proofs.name_mover.Goals as goal
 
 pub returns-then-name_one : goal.returns-then-name_one
 returns-then-name_one c =
-    let t = c in
-    let o = t in
-    let l = o.load-k.ensures in
-    let e = o.name_one.ensures in
-    (rw l at e.0, rw l at (c.store.ensures ∙ sym (part_new _ _ _ _ _ _ e.1 t.if-name_one.true)))
+    let l = c.load-k.ensures in
+    let e = c.name_one.ensures in
+    (rw l at e.0, rw l at (c.store.ensures ∙ sym (part_new _ _ _ _ _ _ e.1 c.if-name_one.true)))
 
 pub returns-else-name_one : goal.returns-else-name_one
 returns-else-name_one c =
-    let o = c in
-    let l = o.load-k.ensures in
-    let e = o.name_one.ensures in
-    (rw l at e.0, rw l at (sym (part-old _ _ o.args.part.now _ _ _ e.1 c.if-name_one.false)))
+    let l = c.load-k.ensures in
+    let e = c.name_one.ensures in
+    (rw l at e.0, rw l at (sym (part-old _ _ c.args.part.now _ _ _ e.1 c.if-name_one.false)))

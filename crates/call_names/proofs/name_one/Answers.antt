@@ -6,15 +6,12 @@ use Rattle.call_names.proofs.name_one.Goals as goal
 pub returns-then-joins : goal.returns-then-joins
 unfolding head_of lead_of
 returns-then-joins c =
-    let t = c in
-    let l = t.load-f.ensures in
-    let e = rw l at (sym t.joins.ensures ∙ t.if-joins.true) in
+    let l = c.load-f.ensures in
+    let e = rw l at (sym c.joins.ensures ∙ c.if-joins.true) in
     (record { name_is = c.store.ensures ∙ rw (e, l) refl; lead_is = rw e refl }, rw e refl)
 
 pub returns : goal.returns
 unfolding head_of lead_of
 returns c =
-    let s = c in
-    let t = s in
-    let e = rw t.load-f.ensures at (sym t.joins.ensures ∙ t.if-joins.false) in
-    (record { name_is = rw e c.store-3.ensures; lead_is = rw e s.store-2.ensures }, rw e refl)
+    let e = rw c.load-f.ensures at (sym c.joins.ensures ∙ c.if-joins.false) in
+    (record { name_is = rw e c.store-3.ensures; lead_is = rw e c.store-2.ensures }, rw e refl)

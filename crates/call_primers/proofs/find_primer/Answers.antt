@@ -1,46 +1,31 @@
 -- `call_primers::find_primer` meets its contract: each return says what document 02 says there. Assumes nothing.
-use mathlib.Core.Path.{sym, ◌∙◌}
-use Rattle.words.proofs.Within.{within_is, within-not}
+use Rattle.words.proofs.Within.{within_is}
 use Rattle.words_primers.proofs.Turning.{GoodLength}
-use Rattle.call_primers.proofs.Said.{long_said, length_said, foreign_said, full_said, places_said}
-use Rattle.call_primers.proofs.find_primer.Goals.{Else-not-good_length}
+use Rattle.words.proofs.Said.{handed}
+use Rattle.read_edges.proofs.Refused.{too_long_handed}
+use Rattle.call_primers.proofs.Said.{long_said, judged_said, full_said, places_said}
+use Rattle.call_primers.proofs.find_primer.Goals.{In_ok-judge}
 use Rattle.call_primers.proofs.find_primer.Goals as goal
 
 -- the length that passed
-good : (c : Else-not-good_length) → let u = c.args.primer.now in GoodLength u
-good c = within_is _ _ _ (sym c.good_length.ensures ∙ c.if-not-good_length.false)
+good : (c : In_ok-judge) → let u = c.args.primer.now in GoodLength u
+good c = within_is _ _ _ c.in_ok-judge.ensures.ok.0
 
-pub returns-then-long-gt-MOST : goal.returns-then-long-gt-MOST
-returns-then-long-gt-MOST c = long_said _ _ _ c.if-long-gt-MOST.true
+pub returns-in_err-check_length : goal.returns-in_err-check_length
+returns-in_err-check_length c = let l = c.in_err-check_length.ensures.err in rw (too_long_handed _ _ _ c.from_residual.ensures.1 l) (long_said _ _ _ l.0)
 
-pub returns-then-not-good_length : goal.returns-then-not-good_length
-returns-then-not-good_length c =
-    let g = c in
-    length_said _ _ _ g.if-long-gt-MOST.false (within-not _ _ _ (sym g.good_length.ensures ∙ c.if-not-good_length.true))
-
-pub returns-then-foreign-letters : goal.returns-then-foreign-letters
-returns-then-foreign-letters c =
-    let f = c in
-    let g = good (goal.at.returns-then-foreign-letters c).Else-not-good_length in
-    rw f.first_foreign-foreign.ensures (foreign_said _ _ _ f.if-long-gt-MOST.false g.0 g.1 (rw f.first_foreign-foreign.ensures at c.if-foreign-letters.true))
+pub returns-in_err-judge : goal.returns-in_err-judge
+returns-in_err-judge c = rw (handed _ _ c.from_residual-in_err-judge.ensures.1) (judged_said _ _ _ _ c.in_ok-check_length.ensures.ok c.in_err-judge.ensures.err)
 
 pub scan-count-requires : goal.scan-count-requires
-scan-count-requires c =
-    let f = c in
-    let g = good (goal.at.scan-count-requires c).Else-not-good_length in
-    (f.if-long-gt-MOST.false, g.0, g.1)
+scan-count-requires c = let g = good (goal.at.scan-count-requires c).In_ok-judge in (c.in_ok-check_length.ensures.ok, g.0, g.1)
 
 pub returns-then-out-count : goal.returns-then-out-count
 returns-then-out-count c =
-    let t = c in
-    let s = t in
-    let f = s in
-    let g = good (goal.at.returns-then-out-count c).Else-not-good_length in
-    rw c.clear.ensures (full_said _ _ _ f.if-long-gt-MOST.false g.0 g.1 (rw f.first_foreign-foreign.ensures at s.if-foreign-letters.false) _ _ s.scan-count.ensures t.if-out-count.true)
+    let g = good (goal.at.returns-then-out-count c).In_ok-judge in
+    rw c.clear.ensures (full_said _ _ _ c.in_ok-check_length.ensures.ok g.0 g.1 c.in_ok-judge.ensures.ok.1 _ _ c.scan-count.ensures c.if-out-count.true)
 
 pub returns : goal.returns
 returns c =
-    let s = c in
-    let f = s in
-    let g = good (goal.at.returns c).Else-not-good_length in
-    places_said _ _ _ f.if-long-gt-MOST.false g.0 g.1 (rw f.first_foreign-foreign.ensures at s.if-foreign-letters.false) _ _ s.scan-count.ensures c.if-out-count.false
+    let g = good (goal.at.returns c).In_ok-judge in
+    places_said _ _ _ c.in_ok-check_length.ensures.ok g.0 g.1 c.in_ok-judge.ensures.ok.1 _ _ c.scan-count.ensures c.if-out-count.false

@@ -1,26 +1,14 @@
 -- `call_replays::bad_width` meets its contract: the tests that the code makes are the definition's. Assumes nothing.
-use Prim.Native.Nat.{ℕ}
-use mathlib.Core.Path.{◌≡◌, sym, ap, ◌∙◌}
-use mathlib.Core.Logic.{⊎_elim}
-use mathlib.Core.Bool.{not}
-use lib.Dec.{leb, ltb}
-use borrow.Author.Tests.{ne_eqb, lt-leb, le-leb, ltb-true, ltb-false}
-use Rattle.words.specs.Logs.{within}
-use Rattle.words.proofs.Tests.{either}
+use mathlib.Core.Path.{◌∙◌}
+use borrow.Author.Tests.{eq-eqb, ne_eqb}
+use Rattle.call_judges.proofs.Tuples.{upto_within}
 use Rattle.call_replays.proofs.bad_width.Goals as goal
 
-over : (a b : ℕ) → ltb a b ≡ not (leb b a)
-over a b =
-    ⊎_elim
-    (λ t. t ∙ sym (ap not (lt-leb b a (ltb-true a b t))))
-    (λ t. t ∙ sym (ap not (le-leb b a (ltb-false a b t))))
-    (either (ltb a b))
+pub returns-then-n-eq0 : goal.returns-then-n-eq0
+returns-then-n-eq0 c = rw (eq-eqb _ _ c.if-n-eq0.true)
 
-pub returns-then-width-lt1 : goal.returns-then-width-lt1
-unfolding within
-returns-then-width-lt1 c = simp (ne_eqb _ _ c.if-n-eq0.false, lt-leb _ _ c.if-width-lt1.true)
-
-pub returns : goal.returns
-unfolding within
-returns c = rw (← c.top_of-top.ensures, ne_eqb _ _ c.if-n-eq0.false, le-leb _ _ c.if-width-lt1.false)
-    (over c.top_of-top.result c.args.width)
+pub returns-else-n-eq0 : goal.returns-else-n-eq0
+returns-else-n-eq0 c =
+    let e = c.new.ensures in
+    let inside = upto_within 1 c.top_of.result c.args.width _ _ _ _ e.start (e.end ∙ c.from.ensures) e.exhausted c.contains.ensures.value in
+    rw (ne_eqb _ _ c.if-n-eq0.false, ← c.top_of.ensures, inside)

@@ -1,36 +1,37 @@
--- `call_replays::first_groups` meets its contract. The loop's invariant: the first i positions have their names; the measure is how many are left.
--- Assumes nothing.
-use mathlib.Core.Path.{◌≡◌}
+-- `call_replays::first_groups` meets its contract. The loop's invariant: the first k positions have their names. Assumes nothing.
+use mathlib.Core.Path.{◌≡◌, refl, ◌∙◌}
 use native.Mathlib.Omega.{arith}
-use Rattle.read_letters.proofs.Kept.{byte_is, seen_next}
-use Rattle.call_replays.proofs.Named.{named_start, named_step, named_end}
+use Rattle.read_letters.proofs.Kept.{byte_is, seen_some, seen_none}
+use Rattle.call_replays.proofs.Named.{named_start, named_joined, named_own, named_end}
+use Rattle.call_replays.proofs.first_groups.Goals.{in-Some, in-None}
 use Rattle.call_replays.proofs.first_groups.Goals as goal
 
-pub loop-i-init : goal.loop-i-init
-loop-i-init c = (omega arith, named_start _ _ c.requires.2)
+pub loop-k-init : goal.loop-k-init
+loop-k-init c = named_start _ _ c.requires.2
 
-pub name_after-s-requires : goal.name_after-s-requires
-name_after-s-requires c =
-    let f = c in
-    let w = f in
-    let l = w.loop-i in
-    let m = seen_next _ _ l.i _ (byte_is _ _ _ w.wide-at.ensures) l.invariant.1.met _ _ f.last_alike-l.ensures (omega (arith, f.shared_slice_known-in-loop-i-1.given w.wide-at.result)) in
-    (omega (arith, m.0.high), l.invariant.1.long)
+pub load-s-requires : goal.load-s-requires
+load-s-requires c =
+    let l = c.loop-k in
+    let m = seen_some _ _ l.k _ (byte_is _ _ _ c.wide.ensures) l.invariant.met _ _ c.in-Some.ensures (omega (arith, c.type_inv.read c.wide.result)) in
+    (m.0, omega (arith, m.1.high))
 
-pub loop-i-preserved : goal.loop-i-preserved
-loop-i-preserved c =
-    let f = c in
-    let w = f in
-    let l = w.loop-i in
-    let m = seen_next _ _ l.i _ (byte_is _ _ _ w.wide-at.ensures) l.invariant.1.met _ _ f.last_alike-l.ensures (omega (arith, f.shared_slice_known-in-loop-i-1.given w.wide-at.result)) in (
-      omega arith,
-      rw (c.store.ensures, c.name_after-s.ensures)
-          (named_step _ _ _ _ l.i _ m.0 m.1 l.invariant.1 (omega arith) (omega arith)),
-    )
+pub loop-k-preserved : goal.loop-k-preserved
+loop-k-preserved c =
+    let l = c.loop-k in
+    let has = byte_is _ _ _ c.wide.ensures in
+    let byte = c.type_inv.read c.wide.result in
+    rw c.store.ensures
+    (elim c.match-l.branch [
+      | in-Some w ↦
+          let m = seen_some _ _ l.k _ has l.invariant.met _ _ w.in-Some.ensures (omega arith) in
+          named_joined _ _ _ _ l.k _ m.1 m.2 l.invariant (omega arith) (omega arith) m.0 _ (w.s-is ∙ w.load-s.ensures)
+      | in-None w ↦
+          let m = seen_none _ _ l.k _ has l.invariant.met _ w.in-None.ensures (omega arith) in
+          rw w.s-is (named_own _ _ _ _ l.k _ m.0 m.1 l.invariant (omega arith) (omega arith) refl)
+    ])
 
 pub returns : goal.returns
 returns c =
-    let s = c in
-    let e : c.loop-i.i ≡ s.args.n = omega arith in
-    let N = rw e at c.loop-i.invariant.1 in
-    (N.long, named_end _ _ _ _ s.requires.1 s.requires.0 N)
+    let e : c.loop-k.k ≡ c.args.n = omega arith in
+    let N = rw e at c.loop-k.invariant in
+    (N.long, named_end _ _ _ _ c.requires.1 c.requires.0 N)

@@ -3,10 +3,11 @@ use Prim.Native.Nat.{◌≤◌}
 use mathlib.Core.Path.{refl, sym, ◌∙◌}
 use native.Mathlib.Omega.{arith}
 use lib.ListN.{length}
-use Rattle.words.specs.Answers.{replayed_says}
+use Rattle.words.specs.Answers.{refused_says, says}
 use Rattle.words.specs.Moves.{top_of}
 use Rattle.call_judges.proofs.Formed.{formed_good}
 use Rattle.call_replays.proofs.Said.{width_inside, long_said, width_said, room_said, entry_said, names_said}
+use Rattle.read_edges.proofs.Refused.{too_long_handed}
 use Rattle.call_replays.proofs.replay.Goals.{Else-bad_width}
 use Rattle.call_replays.proofs.replay.Goals as goal
 
@@ -14,47 +15,34 @@ use Rattle.call_replays.proofs.replay.Goals as goal
 wide : (c : Else-bad_width) → let a = c.args in (1 ≤ length a.read.now) × (1 ≤ a.width) × (a.width ≤ top_of (length a.read.now))
 wide c = let a = c.args in width_inside (length a.read.now) a.width (sym c.bad_width.ensures ∙ c.if-bad_width.false)
 
-pub returns-then-long-gt-MOST : goal.returns-then-long-gt-MOST
-unfolding replayed_says
-returns-then-long-gt-MOST c = long_said _ _ _ _ c.if-long-gt-MOST.true
+pub returns-in_err-check_length : goal.returns-in_err-check_length
+unfolding says refused_says
+returns-in_err-check_length c = let l = c.in_err-check_length.ensures.err in rw (too_long_handed _ _ _ c.from_residual.ensures.1 l) (long_said _ _ _ _ l.0)
 
 pub returns-then-bad_width : goal.returns-then-bad_width
-unfolding replayed_says
-returns-then-bad_width c = width_said _ _ _ _ c.if-long-gt-MOST.false (sym c.bad_width.ensures ∙ c.if-bad_width.true)
+unfolding says refused_says
+returns-then-bad_width c = width_said _ _ _ _ c.in_ok-check_length.ensures.ok (sym c.bad_width.ensures ∙ c.if-bad_width.true)
 
 pub returns-then-out-long : goal.returns-then-out-long
-unfolding replayed_says
-returns-then-out-long c = let d = c in room_said _ _ _ _ d.if-long-gt-MOST.false (sym d.bad_width.ensures ∙ c.if-bad_width.false) c.if-out-long.true
+unfolding says refused_says
+returns-then-out-long c = room_said _ _ _ _ c.in_ok-check_length.ensures.ok (sym c.bad_width.ensures ∙ c.if-bad_width.false) c.if-out-long.true
 
 pub returns-then-not-well_formed : goal.returns-then-not-well_formed
-unfolding replayed_says
+unfolding says refused_says
 returns-then-not-well_formed c =
-    let b = c in
-    let r = b in
-    let d = r in
-    rw b.first_bad-k.ensures
-    (entry_said _ _ _ _ d.if-long-gt-MOST.false (sym d.bad_width.ensures ∙ r.if-bad_width.false) r.if-out-long.false (sym b.well_formed-2.ensures ∙ c.if-not-well_formed.true))
+    rw c.first_bad-k.ensures
+    (entry_said _ _ _ _ c.in_ok-check_length.ensures.ok (sym c.bad_width.ensures ∙ c.if-bad_width.false) c.if-out-long.false (sym c.well_formed-2.ensures ∙ c.if-not-well_formed.true))
 
 pub overflow_cast-width : goal.overflow_cast-width
 unfolding top_of
-overflow_cast-width c =
-    let e = c in
-    omega (arith, (wide (goal.at.overflow_cast-width c).Else-bad_width).2, e.if-long-gt-MOST.false)
+overflow_cast-width c = omega (arith, (wide (goal.at.overflow_cast-width c).Else-bad_width).2, c.in_ok-check_length.ensures.ok)
 
 pub replay_all-requires : goal.replay_all-requires
 replay_all-requires c =
-    let b = c in
-    let e = b in
-    (formed_good _ _ e.if-long-gt-MOST.false (sym b.well_formed-2.ensures ∙ c.if-not-well_formed.false), refl, refl, (wide (goal.at.replay_all-requires c).Else-bad_width).1)
+    (formed_good _ _ c.in_ok-check_length.ensures.ok (sym c.well_formed-2.ensures ∙ c.if-not-well_formed.false), refl, c.empty_rooms-r.ensures.0, c.empty_rooms-r.ensures.1, (wide (goal.at.replay_all-requires c).Else-bad_width).1)
 
 pub returns : goal.returns
-unfolding replayed_says
+unfolding says refused_says
 returns c =
-    let w = c in
-    let a = w in
-    let f = a in
-    let b = f in
-    let r = b in
-    let d = r in
-    names_said _ _ _ _ d.if-long-gt-MOST.false (sym d.bad_width.ensures ∙ r.if-bad_width.false) r.if-out-long.false (sym b.well_formed-2.ensures ∙ f.if-not-well_formed.false) _
-    (rw (← a.replay_all.ensures.1) w.copy_names.ensures)
+    names_said _ _ _ _ c.in_ok-check_length.ensures.ok (sym c.bad_width.ensures ∙ c.if-bad_width.false) c.if-out-long.false (sym c.well_formed-2.ensures ∙ c.if-not-well_formed.false) _
+    (rw (← c.replay_all.ensures.1) c.copy_names.ensures)

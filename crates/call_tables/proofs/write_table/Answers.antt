@@ -13,40 +13,32 @@ use Rattle.steps.proofs.Walks.{stands-passed, walks_begin, walks_on, walks_reach
 use Rattle.call_tables.proofs.write_table.Goals as goal
 
 pub loop-v-init : goal.loop-v-init
-loop-v-init c =
-    let P = c.requires in
-    let B = c.begin.ensures in
-    (search rules, walks_begin _ _ _ _ _ P.2 B.0 B.1, begin_asks.1)
+loop-v-init c = let B = c.begin.ensures in (search rules, walks_begin _ _ _ _ _ c.requires.2 B.0 B.1)
 
 pub onward-v-requires : goal.onward-v-requires
 onward-v-requires c =
     let E = c.pass.ensures in
-    let l = c in
-    let W = l.loop-v.invariant.1 in
-    let P = l.requires in
-    (held_passed _ _ _ W.held _ E.0 E.1, E.2, W.low, omega (arith, l.loop-v-test.true), P.3)
+    let W = c.loop-v.invariant.1 in
+    (held_passed _ _ _ W.held _ E.0 E.1, E.2, W.low, omega (arith, c.loop-v-test.true), c.requires.3)
 
 pub loop-v-preserved : goal.loop-v-preserved
 loop-v-preserved c =
     let E = c.pass.ensures in
-    let l = c in
-    let S = l.loop-v.invariant.1.here (omega (arith, l.loop-v-test.true)) in
+    let S = c.loop-v.invariant.1.here (omega (arith, c.loop-v-test.true)) in
     let O = c.onward-v.ensures in
-    (O.3, walks_on _ _ _ _ _ _ _ (omega (arith, O.2)) O.0 O.1 (O.4 _ (stands-passed _ _ _ _ _ _ E.0 E.1 S)), E.3)
+    (O.3, walks_on _ _ _ _ _ _ _ (omega (arith, O.2)) O.0 O.1 (O.4 _ (stands-passed _ _ _ _ _ _ E.0 E.1 S)))
 
 pub copy_names-requires : goal.copy_names-requires
 unfolding row
 copy_names-requires c =
     let W = c.loop-v.invariant.1 in
-    let P = c.requires in
-    (P.0, search rules, W.held.long.each 0 (omega arith))
+    (c.requires.0, search rules, W.held.long.each 0 (omega arith))
 
 pub returns : goal.returns
 unfolding row
 returns c =
     let S = walks_reach _ _ _ _ _ _ (omega (arith, c.loop-v-test.false)) c.loop-v.invariant.1 in
-    let s = c in
-    c.copy_names.ensures ∙ ap (λ (t : List ℕ). t ++ drop (length s.args.read.now) s.args.out.now) S.names
+    c.copy_names.ensures ∙ ap (λ (t : List ℕ). t ++ drop (length c.args.read.now) c.args.out.now) S.names
 
 pub begin-requires : goal.begin-requires
-begin-requires c = (search rules, search rules, begin_asks.0, begin_asks.1, begin_asks.2)
+begin-requires c = (search rules, search rules, begin_asks, c.none-small.ensures)

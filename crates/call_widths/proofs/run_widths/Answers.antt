@@ -3,4 +3,4 @@ use Rattle.call_widths.proofs.Seen.{listing_runs}
 use Rattle.call_widths.proofs.run_widths.Goals as goal
 
 pub returns : goal.returns
-returns c = listing_runs _ _ _ _ _ c.look_widths.ensures.0
+returns c = listing_runs _ _ _ _ c.look_widths.ensures.0

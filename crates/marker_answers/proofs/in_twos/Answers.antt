@@ -1,9 +1,21 @@
--- `marker_answers::in_twos` meets its contract: a negative number counts down from the largest, any other stands as it is. Assumes nothing.
-use Rattle.marker_answers.proofs.Twos.{minus_is, plus_is}
+-- `marker_answers::in_twos` meets its contract: the library's bits of a number are two's complement, sign by sign. Assumes nothing.
+use mathlib.Core.Path.{◌≡◌, refl, ◌∙◌}
+use lib.IntN.{ℤ, pos, negsuc}
+use native.Mathlib.Omega.{arith}
+use mir.Syntax.{w64}
+use mir.Val.{SFits, of_z}
+use mir.ValLaws.{to_z-of_z}
+use borrow.Author.Rules.{rules}
+use Rattle.marker_answers.specs.Scores.{in_twos}
 use Rattle.marker_answers.proofs.in_twos.Goals as goal
 
-pub returns-then-signed-lt0 : goal.returns-then-signed-lt0
-returns-then-signed-lt0 c = minus_is _ c.ranges.signed c.if-signed-lt0.true
+bits_are : (z : ℤ) → of_z w64 z ≡ in_twos z
+unfolding in_twos
+bits_are (pos n) = refl
+bits_are (negsuc n) = refl
 
 pub returns : goal.returns
-returns c = plus_is _ c.ranges.signed c.if-signed-lt0.false
+returns c =
+    let fits : SFits w64 c.args.signed = search rules in
+    let bits : c.cast_unsigned.result ≡ of_z w64 c.args.signed = grind (arith, to_z-of_z) in
+    bits ∙ bits_are _

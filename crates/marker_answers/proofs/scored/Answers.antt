@@ -10,11 +10,11 @@ use Rattle.marker_answers.specs.Scores.{plain_score}
 use Rattle.marker_answers.proofs.Refused.{refused-plain}
 use Rattle.marker_answers.proofs.scored.Goals as goal
 
-pub returns-in-Copies : goal.returns-in-Copies
+pub returns-in-Ok : goal.returns-in-Ok
 unfolding plain_score scored_says success
-returns-in-Copies c =
-    let back : to_z w32 (of_z w32 c.in-Copies.difference) ≡ c.in-Copies.difference = to_z-of_z w32 _ (record { sfits = search rules }) in
-    rw (c.in_twos.ensures, c.in-Copies.is, back) refl
+returns-in-Ok c =
+    let back : to_z w32 (of_z w32 c.in-Ok.score.difference) ≡ c.in-Ok.score.difference = to_z-of_z w32 _ (record { sfits = search rules }) in
+    rw (c.in_twos.ensures, c.in-Ok.is, back) refl
 
-pub returns-in-Not : goal.returns-in-Not
-returns-in-Not c = c.unscored.ensures ∙ rw c.in-Not.is (refused-plain _)
+pub returns-in-Err : goal.returns-in-Err
+returns-in-Err c = c.refused.ensures ∙ rw c.in-Err.is (refused-plain _)

@@ -1,21 +1,16 @@
 -- `marker_calls::find_site` meets its contract: what lies between the primers is searched, and what is refused stays refused. Assumes nothing.
 use mathlib.Core.Path.{sym, ◌∙◌}
-use Rattle.words_markers.specs.declared.Seats.{Seats}
+use Rattle.std.specs.Prelude.{Ok}
 use Rattle.words_markers.proofs.Seated.{between-inside, seats_exactly}
 use Rattle.words_markers.proofs.Truth.{site-between, site-not}
+use Rattle.words.proofs.Said.{handed}
 use Rattle.marker_calls.proofs.find_site.Goals as goal
 
 pub fit-requires : goal.fit-requires
-fit-requires c =
-    let k = c in
-    between-inside _ _ _ _ _ ((seats_exactly _ _ _ (Seats.Between _ _)).0 (sym k.seat.ensures ∙ k.in-Between.is))
+fit-requires c = between-inside _ _ _ _ _ ((seats_exactly _ _ _ (Ok _)).0 (sym c.seat.ensures ∙ c.in_ok-between.was))
 
-pub returns-in-Between : goal.returns-in-Between
-returns-in-Between c =
-    let k = c in
-    c.fit.ensures ∙ sym (site-between _ _ _ _ _ _ (sym k.seat.ensures ∙ k.in-Between.is))
+pub returns-in_err-between : goal.returns-in_err-between
+returns-in_err-between c = handed _ _ c.from_residual.ensures.1 ∙ sym (site-not _ _ _ _ _ (sym c.seat.ensures ∙ c.in_err-between.was))
 
-pub returns-in-Not : goal.returns-in-Not
-returns-in-Not c =
-    let k = c in
-    sym (site-not _ _ _ _ _ (sym k.seat.ensures ∙ k.in-Not.is))
+pub returns : goal.returns
+returns c = c.fit.ensures ∙ sym (site-between _ _ _ _ _ _ (sym c.seat.ensures ∙ c.in_ok-between.was))

@@ -1,26 +1,26 @@
--- `primer_judges::first_foreign` meets its contract. The loop's invariant: none of the first k letters is foreign; the measure is how many are left. Assumes nothing.
-use mathlib.Core.Path.{refl, sym, ◌∙◌}
-use native.Mathlib.Omega.{arith}
-use borrow.Author.Rules.{rules}
-use borrow.Author.Tests.{eq-eqb, ne_eqb}
-use Rattle.words.proofs.Searches.{missed_more, first_hit, first_ended}
+-- `primer_judges::first_foreign` meets its contract: the place that `position` gives is the first foreign letter's. Assumes nothing.
+use Rattle.std.proofs.Common.{◌≡◌, ℕ, ◌<◌, false, true, eqb, List, length, sym, ◌∙◌, arith, rules, tests, Option, Some, None}
+use Rattle.std.specs.List.{AllWithin, HoldsAt}
+use Rattle.std.specs.Option.{MatchOption, unwrap_or}
+use Rattle.std.proofs.lemmas.Iterator.{IsFirst-from_position, YieldsList-from_slice}
+use Rattle.words.proofs.Searches.{first_hit, first_ended}
+use Rattle.words_primers.specs.Bases.{set_of}
 use Rattle.words_primers.specs.Primers.{foreign, first_foreign}
 use Rattle.primer_judges.proofs.first_foreign.Goals as goal
 
-pub returns-then-set_of-eq0 : goal.returns-then-set_of-eq0
-unfolding first_foreign foreign
-returns-then-set_of-eq0 c =
-    let o = c in
-    let l = o in
-    sym (first_hit _ _ 0 _ l.loop-k.invariant.1 (omega arith) (omega (arith, o.loop-k-test.true)) (eq-eqb _ 0 (sym o.set_of.ensures.0 ∙ c.if-set_of-eq0.true)))
+-- letter b is foreign, or is not
+abbrev Foreign : ℕ → Type 0
+Foreign b = eqb (set_of b) 0 ≡ true
 
-pub loop-k-preserved : goal.loop-k-preserved
-unfolding foreign
-loop-k-preserved c =
-    let o = c in
-    let l = o in
-    (search rules, missed_more _ _ _ _ l.loop-k.invariant.1 (ne_eqb _ 0 (λ z. c.if-set_of-eq0.false (o.set_of.ensures.0 ∙ z))) refl)
+abbrev Own : ℕ → Type 0
+Own b = eqb (set_of b) 0 ≡ false
+
+first_of : (u : List ℕ) (r : Option ℕ) → MatchOption r (AllWithin Own u 0 (length u)) (λ i. (i < length u) × HoldsAt Foreign u i × AllWithin Own u 0 i) → unwrap_or r (length u) ≡ first_foreign u
+unfolding first_foreign foreign
+first_of u None h = sym (first_ended _ _ 0 _ (λ k a l. h k 0 a l) (omega arith))
+first_of u (Some i) h = sym (first_hit _ _ 0 i (λ k a l. h.2 k 0 a l) (omega arith) (omega arith) (h.1 0))
 
 pub returns : goal.returns
-unfolding first_foreign
-returns c = let l = c in sym (first_ended _ _ 0 _ l.loop-k.invariant.1 (omega (arith, l.loop-k.invariant.0, c.loop-k-test.false)))
+returns c =
+    let p = IsFirst-from_position _ _ _ Foreign Own c.position.ensures.ran (YieldsList-from_slice c.args.primer.now cc) (λ x q k. search (rules, tests)) (λ x q k. search (rules, tests)) in
+    c.unwrap_or.ensures ∙ first_of _ _ p

@@ -6,21 +6,17 @@ use native.Mathlib.Omega.{arith}
 use Rattle.words.specs.Reads.{at}
 use Rattle.words.proofs.Searches.{missed_more}
 use Rattle.start_runs.proofs.Rows.{ends-not, last_found}
-use Rattle.start_runs.proofs.last_at.Goals.{In-loop-j}
 use Rattle.start_runs.proofs.last_at.Goals as goal
-
--- in a turn the place after j is a start
-start : (c : In-loop-j) → at c.args.dist.now (c.loop-j.j + 1) ≡ c.args.p
-start c = sym c.load.ensures ∙ c.loop-j-test.true
 
 pub loop-j-preserved : goal.loop-j-preserved
 loop-j-preserved c =
     let L = c.loop-j in
     let N = c.requires.0 in
-    let next : suc L.j ≡ L.j + 1 = omega arith in (
+    let next : suc L.j ≡ L.j + 1 = omega arith in
+    let s : at c.args.dist.now (L.j + 1) ≡ c.args.p = sym c.load.ensures ∙ c.loop-j-test.true in (
       omega (arith, L.invariant.0),
-      N.inside (L.j + 1) (omega arith) (omega (arith, L.invariant.1, N.some)) (start (goal.at.loop-j-preserved c).In-loop-j),
-      missed_more _ _ _ _ L.invariant.2 (ends-not _ _ L.j (ap (at _) next ∙ start (goal.at.loop-j-preserved c).In-loop-j)) refl,
+      N.inside (L.j + 1) (omega arith) (omega (arith, L.invariant.1, N.some)) s,
+      missed_more _ _ _ _ L.invariant.2 (ends-not _ _ L.j (ap (at _) next ∙ s)) refl,
     )
 
 pub returns : goal.returns

@@ -5,7 +5,4 @@ use Rattle.step3_lists.proofs.file.Goals as goal
 
 pub returns : goal.returns
 unfolding filed_at
-returns c =
-    let after = c in
-    let l = after in
-    rw (c.store-2.ensures, after.store.ensures, l.load-h.ensures) refl
+returns c = rw (c.store-2.ensures, c.store.ensures, c.load-h.ensures) refl

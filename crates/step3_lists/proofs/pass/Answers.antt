@@ -12,50 +12,41 @@ use Rattle.step3_lists.proofs.pass.Goals as goal
 
 pub loop-h-init : goal.loop-h-init
 loop-h-init c =
-    let l = c in
-    let s = l.requires in
-    (only_none (HEAD ∷ AFTER ∷ []) _, s.2, rw c.store.ensures (passing_start _ (s.3, s.4) _ s.0 s.1 _ l.load-h.ensures _))
+    let s = c.requires in
+    (only_none (HEAD ∷ AFTER ∷ []) _, rw c.store.ensures (passing_start _ (s.2, s.3) _ s.0 s.1 _ c.load-h.ensures _))
 
 pub load-b-requires : goal.load-b-requires
 load-b-requires c =
-    let t = c in
-    let s = t.requires in
-    let p = passing_place _ (s.3, s.4) _ (omega (arith, t.loop-h-test.true)) t.loop-h.invariant.2 in
+    let s = c.requires in
+    let p = passing_place _ (s.2, s.3) _ (omega (arith, c.loop-h-test.true)) c.loop-h.invariant.1 in
     (omega arith, p.0, p.1)
 
 pub overflow_sub-b : goal.overflow_sub-b
 overflow_sub-b c =
-    let t = c in
-    let s = t.requires in
-    omega (arith, c.load-b.ensures, passing-link _ (s.3, s.4) _ (omega (arith, t.loop-h-test.true)) t.loop-h.invariant.2)
+    let s = c.requires in
+    omega (arith, c.load-b.ensures, passing-link _ (s.2, s.3) _ (omega (arith, c.loop-h-test.true)) c.loop-h.invariant.1)
 
 pub release-requires : goal.release-requires
 release-requires c =
-    let t = c in
-    let s = t.requires in
-    let I = t.loop-h.invariant in
-    let h : 1 ≤ t.loop-h.h = omega (arith, t.loop-h-test.true) in
-    let p = passing_place _ (s.3, s.4) _ h I.2 in
-    (passing_heads _ (s.3, s.4) _ h I.2, I.1, p.0, p.1, passing_low _ (s.3, s.4) _ h I.2)
+    let s = c.requires in
+    let I = c.loop-h.invariant in
+    let h : 1 ≤ c.loop-h.h = omega (arith, c.loop-h-test.true) in
+    let p = passing_place _ (s.2, s.3) _ h I.1 in
+    (passing_heads _ (s.2, s.3) _ h I.1, p.0, p.1, passing_low _ (s.2, s.3) _ h I.1)
 
 pub loop-h-smaller : goal.loop-h-smaller
 loop-h-smaller c =
-    let l = c in
-    let t = l in
-    let s = t.requires in
-    rw (c.release.ensures.0, l.load-b.ensures) (passing_less _ (s.3, s.4) _ (omega (arith, t.loop-h-test.true)) t.loop-h.invariant.2)
+    let s = c.requires in
+    rw (c.release.ensures.0, c.load-b.ensures) (passing_less _ (s.2, s.3) _ (omega (arith, c.loop-h-test.true)) c.loop-h.invariant.1)
 
 pub loop-h-preserved : goal.loop-h-preserved
 loop-h-preserved c =
-    let l = c in
-    let t = l in
-    let s = t.requires in
-    let I = t.loop-h.invariant in
-    let h : 1 ≤ t.loop-h.h = omega (arith, t.loop-h-test.true) in
+    let s = c.requires in
+    let I = c.loop-h.invariant in
+    let h : 1 ≤ c.loop-h.h = omega (arith, c.loop-h-test.true) in
     let R = c.release.ensures in (
-      rw R.0 (only_trans (HEAD ∷ AFTER ∷ []) _ _ _ I.0 (passing-only _ (s.3, s.4) _ h I.2)),
-      R.1,
-      rw (R.0, R.2, l.load-b.ensures) (passing_on _ (s.3, s.4) _ h I.2 (flags-length _)),
+      rw R.0 (only_trans (HEAD ∷ AFTER ∷ []) _ _ _ I.0 (passing-only _ (s.2, s.3) _ h I.1)),
+      rw (R.0, R.1, c.load-b.ensures) (passing_on _ (s.2, s.3) _ h I.1 (flags-length _)),
     )
 
 pub returns : goal.returns
@@ -64,7 +55,7 @@ returns c =
     let s = c.requires in
     let I = c.loop-h.invariant in
     let z : c.loop-h.h ≡ 0 = omega (arith, c.loop-h-test.false) in
-    let P = rw z at I.2 in
+    let P = rw z at I.1 in
     let first = only-put (HEAD ∷ AFTER ∷ []) _ HEAD _ _ refl in
     let only = only_trans (HEAD ∷ AFTER ∷ []) _ _ _ first (rw c.store.ensures at I.0) in
-    (P.long, only, passing_waits _ (s.3, s.4) _ P, I.1, rw (← only_row (HEAD ∷ AFTER ∷ []) _ _ DIST only refl) (passing-marked _ (s.3, s.4) _ P))
+    (P.long, only, passing_waits _ (s.2, s.3) _ P, rw (← only_row (HEAD ∷ AFTER ∷ []) _ _ DIST only refl) (passing-marked _ (s.2, s.3) _ P))

@@ -1,47 +1,36 @@
--- `fresh` meets its contract. The loop's invariant: the first i positions are done. The measure is what is left of the read. Assumes nothing.
-use mathlib.Core.Path.{◌≡◌}
+-- `fresh` meets its contract. The loop's invariant: the first k positions are done. Assumes nothing.
+use mathlib.Core.Path.{◌≡◌, refl}
 use native.Mathlib.Omega.{arith}
-use Rattle.read_letters.proofs.Kept.{byte_is, seen_next}
+use Rattle.read_letters.proofs.Kept.{byte_is, seen_some, seen_none}
 use Rattle.step4_fresh.proofs.Begun.{begun_start, join_asks, begun-next, begun_first, begun-end}
+use Rattle.step4_fresh.proofs.fresh.Goals.{in-Some, in-None}
 use Rattle.step4_fresh.proofs.fresh.Goals as goal
 
-pub loop-i-init : goal.loop-i-init
-loop-i-init c =
-    let s = c.requires in
-    (omega arith, begun_start _ s.2 _ _ s.3 s.4)
+pub loop-k-init : goal.loop-k-init
+loop-k-init c = let s = c.requires in begun_start _ s.2 _ _ s.3
 
 pub next_letter-requires : goal.next_letter-requires
 next_letter-requires c =
-    let f = c in
-    let w = f in
-    let l = w.loop-i in
-    let m = seen_next _ _ l.i _ (byte_is _ _ _ w.wide-at.ensures) l.invariant.1.met _ _ f.last_alike-l.ensures (omega (arith, f.shared_slice_known-in-loop-i-1.given w.wide-at.result)) in
-    join_asks _ _ _ _ _ l.i _ m.0 m.1 l.invariant.1 (omega arith) (omega arith) (omega (arith, c.if-l-gt0.true))
+    let l = c.loop-k in
+    let m = seen_some _ _ l.k _ (byte_is _ _ _ c.wide.ensures) l.invariant.met _ _ c.in-Some.ensures (omega (arith, c.type_inv.read c.wide.result)) in
+    join_asks _ _ _ _ _ l.k _ m.1 m.2 l.invariant (omega arith) (omega arith) m.0
 
-pub loop-i-preserved-then-l-gt0 : goal.loop-i-preserved-then-l-gt0
-loop-i-preserved-then-l-gt0 c =
-    let f = c in
-    let w = f in
-    let l = w.loop-i in
-    let m = seen_next _ _ l.i _ (byte_is _ _ _ w.wide-at.ensures) l.invariant.1.met _ _ f.last_alike-l.ensures (omega (arith, f.shared_slice_known-in-loop-i-1.given w.wide-at.result)) in (
-      omega arith,
-      begun-next _ _ _ _ _ l.i _ m.0 m.1 l.invariant.1 (omega arith) (omega arith) (omega (arith, c.if-l-gt0.true)) _ c.next_letter.ensures,
-    )
-
-pub loop-i-preserved : goal.loop-i-preserved
-loop-i-preserved c =
-    let f = c in
-    let w = f in
-    let l = w.loop-i in
-    let m = seen_next _ _ l.i _ (byte_is _ _ _ w.wide-at.ensures) l.invariant.1.met _ _ f.last_alike-l.ensures (omega (arith, f.shared_slice_known-in-loop-i-1.given w.wide-at.result)) in
-    let g = c.first_letter.ensures in (
-      omega arith,
-      rw g.0
-          (begun_first _ _ _ _ _ l.i _ m.0 m.1 l.invariant.1 (omega arith) (omega arith) _ (omega (arith, c.if-l-gt0.false)) g.1 g.2),
-    )
+pub loop-k-preserved : goal.loop-k-preserved
+loop-k-preserved c =
+    let l = c.loop-k in
+    let has = byte_is _ _ _ c.wide.ensures in
+    let byte = c.type_inv.read c.wide.result in
+    elim c.match-last_alike.branch [
+      | in-Some w ↦
+          let m = seen_some _ _ l.k _ has l.invariant.met _ _ w.in-Some.ensures (omega arith) in
+          rw (w.a-is, w.small-is) (begun-next _ _ _ _ _ l.k _ m.1 m.2 l.invariant (omega arith) (omega arith) m.0 _ w.next_letter.ensures)
+      | in-None w ↦
+          let m = seen_none _ _ l.k _ has l.invariant.met _ w.in-None.ensures (omega arith) in
+          let g = w.first_letter.ensures in
+          rw (w.a-is, w.small-is, g.0) (begun_first _ _ _ _ _ l.k _ m.0 m.1 l.invariant (omega arith) (omega arith) _ refl g.1)
+    ]
 
 pub returns : goal.returns
 returns c =
-    let s = c in
-    let e : c.loop-i.i ≡ s.args.n = omega arith in
-    begun-end _ _ _ _ _ s.requires.1 s.requires.0 (rw e at c.loop-i.invariant.1)
+    let e : c.loop-k.k ≡ c.args.n = omega arith in
+    begun-end _ _ _ _ _ c.requires.1 c.requires.0 (rw e at c.loop-k.invariant)

@@ -9,12 +9,8 @@ use Rattle.step4_fresh.proofs.next_letter.Goals as goal
 
 pub file-requires : goal.file-requires
 file-requires c =
-    let dist = c in
-    let size = dist in
-    let prev = size in
-    let name = prev in
-    let s = name.requires in (
-      rw (dist.store-4.ensures, size.store-3.ensures, prev.store-2.ensures, name.store.ensures)
+    let s = c.requires in (
+      rw (c.store-4.ensures, c.store-3.ensures, c.store-2.ensures, c.store.ensures)
           (heads_put _ _ _ _ refl (heads_put _ _ _ _ refl (heads_put _ _ _ _ refl (heads_put _ _ _ _ refl (lists_heads s.1))))),
       s.2,
       omega (arith, s.3, s.4),
@@ -24,12 +20,6 @@ file-requires c =
 
 pub returns : goal.returns
 returns c =
-    let dist = c in
-    let size = dist in
-    let prev = size in
-    let name = prev in
-    let z = name in
-    let s = z in
-    let p = s.requires in
-    rw (← s.load-s.ensures, c.file.ensures, dist.store-4.ensures, size.store-3.ensures, prev.store-2.ensures, name.store.ensures)
-    (joined _ p.0 _ _ _ _ _ p.1 p.4 p.3 p.2 p.8 (ap (λ (v : ℕ). v + 1) z.load-z.ensures) refl)
+    let p = c.requires in
+    rw (← c.load-s.ensures, c.file.ensures, c.store-4.ensures, c.store-3.ensures, c.store-2.ensures, c.store.ensures)
+    (joined _ p.0 _ _ _ _ _ p.1 p.4 p.3 p.2 p.8 (ap (λ (v : ℕ). v + 1) c.load-z.ensures) refl)

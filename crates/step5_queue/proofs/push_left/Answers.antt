@@ -13,10 +13,8 @@ store_wide-requires c = (omega arith, omega arith, omega (arith, ap length (left
 
 pub returns-then-j-gt1 : goal.returns-then-j-gt1
 returns-then-j-gt1 c =
-    let s = c in
-    let t = c.if-j-gt1.true in
-    rw (c.store_wide.ensures, left-some s.args.j t)
-    (grown_put _ _ _ _ [] (s.args.j - 1) (grown_none _ _ s.requires.0) (omega (arith, ap length (left-some s.args.j t))))
+    let e = left-some c.args.j c.if-j-gt1.true in
+    rw (c.store_wide.ensures, e) (grown_put _ _ _ _ [] (c.args.j - 1) (grown_none _ _ c.requires.0) (omega (arith, ap length e)))
 
 pub returns : goal.returns
 returns c = rw (left-none c.args.j c.if-j-gt1.false) (grown_none _ _ c.requires.0)

@@ -6,7 +6,4 @@ use Rattle.step6_leave.proofs.begin_part.Goals as goal
 pub returns : goal.returns
 unfolding begun_at
 returns c =
-    let many = c in
-    let part = many in
-    let que = part in
-    rw (c.store-4.ensures, many.store-3.ensures, part.store-2.ensures, que.store.ensures) refl
+    rw (c.store-4.ensures, c.store-3.ensures, c.store-2.ensures, c.store.ensures) refl

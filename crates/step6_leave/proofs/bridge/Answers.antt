@@ -4,6 +4,5 @@ use Rattle.step6_leave.proofs.bridge.Goals as goal
 
 pub change-requires : goal.change-requires
 change-requires c =
-    let l = c in
-    let s = l.requires in
-    (s.0, s.1, s.2, s.3, rw (c.next.ensures, l.load-e.ensures) (joined-most _ _ _ s.4))
+    let s = c.requires in
+    (s.0, s.1, s.2, s.3, rw (c.next.ensures, c.load-e.ensures) (joined-most _ _ _ s.4))

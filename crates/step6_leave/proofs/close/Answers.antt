@@ -8,6 +8,5 @@ returns-then-p-gt0 c = closed_some _ _ _ _ _ _ _ c.if-p-gt0.true c.bridge.ensure
 
 pub returns-else-p-gt0 : goal.returns-else-p-gt0
 returns-else-p-gt0 c =
-    let f = c in
-    let s = f.requires in
-    rw (c.store.ensures, c.next.ensures) (closed_none _ _ _ _ _ _ s.0.long (omega (arith, f.if-p-gt0.false)))
+    let s = c.requires in
+    rw (c.store.ensures, c.next.ensures) (closed_none _ _ _ _ _ _ s.0.long (omega (arith, c.if-p-gt0.false)))

@@ -5,9 +5,7 @@ use Rattle.step6_leave.proofs.detach.Goals as goal
 
 pub returns-then-d-gt0 : goal.returns-then-d-gt0
 returns-then-d-gt0 c =
-    let dist = c in
-    let some = dist in
-    rw (c.store-then-d-gt0.ensures, dist.store.ensures) (detached_some _ _ _ _ some.requires.0 some.if-d-gt0.true)
+    rw (c.store-then-d-gt0.ensures, c.store.ensures) (detached_some _ _ _ _ c.requires.0 c.if-d-gt0.true)
 
 pub returns-else-d-gt0 : goal.returns-else-d-gt0
 returns-else-d-gt0 c =

@@ -8,10 +8,8 @@ use Rattle.step6_leave.proofs.join.Goals as goal
 
 pub change-requires : goal.change-requires
 change-requires c =
-    let many = c in
-    let l = many in
-    let J = l.requires in
-    rw (c.store-2.ensures, many.store.ensures) (
+    let J = c.requires in
+    rw (c.store-2.ensures, c.store.ensures) (
       long-put _ _ _ _ (long-put _ _ _ _ J.long),
       heads_put _ _ _ _ refl (heads_put _ _ _ _ refl J.heads),
       J.low,
@@ -22,7 +20,4 @@ change-requires c =
 pub returns : goal.returns
 unfolding counted_at
 returns c =
-    let prev = c in
-    let many = prev in
-    let l = many in
-    rw (prev.store-2.ensures, many.store.ensures, l.load-z.ensures, l.load-c.ensures) at c.change.ensures
+    rw (c.store-2.ensures, c.store.ensures, c.load-z.ensures, c.load-c.ensures) at c.change.ensures

@@ -4,16 +4,10 @@ use Rattle.step6_leave.proofs.leave.Goals as goal
 
 pub detach-requires : goal.detach-requires
 detach-requires c =
-    let o = c in
-    let d = o in
-    let p = d in
-    let A = p.requires in
-    let C = o.close.ensures in
-    (C.long, A.low, rw d.load-d.ensures A.ahead, closed_dist _ _ _ _ _ _ _ A p.load-p.ensures d.load-d.ensures C)
+    let A = c.requires in
+    let C = c.close.ensures in
+    (C.long, A.low, rw c.load-d.ensures A.ahead, closed_dist _ _ _ _ _ _ _ A c.load-p.ensures c.load-d.ensures C)
 
 pub returns : goal.returns
 returns c =
-    let o = c in
-    let d = o in
-    let p = d in
-    gone _ _ _ _ _ _ _ p.requires p.load-p.ensures d.load-d.ensures o.close.ensures _ c.detach.ensures
+    gone _ _ _ _ _ _ _ c.requires c.load-p.ensures c.load-d.ensures c.close.ensures _ c.detach.ensures

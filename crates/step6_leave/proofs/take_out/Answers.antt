@@ -5,8 +5,6 @@ use Rattle.step6_leave.proofs.take_out.Goals as goal
 
 pub leave-requires : goal.leave-requires
 leave-requires c =
-    let size = c in
-    let tail = size in
-    let s = tail.requires in
-    rw (size.store-2.ensures, tail.store.ensures)
+    let s = c.requires in
+    rw (c.store-2.ensures, c.store.ensures)
     (leavable_put _ _ _ _ _ _ refl refl refl (leavable_put _ _ _ _ _ _ refl refl refl s.0))

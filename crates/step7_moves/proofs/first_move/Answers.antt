@@ -39,9 +39,6 @@ begin_part-requires c =
 
 pub returns : goal.returns
 returns c n m q o T =
-    let out = c in
-    let rest = out in
-    let touched = rest in
-    let s = touched.requires in
+    let s = c.requires in
     rw c.begin_part.ensures
-    (turn-first T s.1 s.2 (rw s.3 at s.4) _ s.3 (rw (rest.store-2.ensures, touched.store.ensures) at out.take_out.ensures))
+    (turn-first T s.1 s.2 (rw s.3 at s.4) _ s.3 (rw (c.store-2.ensures, c.store.ensures) at c.take_out.ensures))

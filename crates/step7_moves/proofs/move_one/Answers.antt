@@ -8,19 +8,13 @@ load-k-requires c = let T = c.requires.4 in (omega arith, (turn_place T).0, omeg
 
 pub load-t-requires : goal.load-t-requires
 load-t-requires c =
-    let name = c in
-    let k = turn-named name.requires.4 name.load-k.ensures in
+    let k = turn-named c.requires.4 c.load-k.ensures in
     (omega arith, k.0, k.1)
 
 pub load-r-requires : goal.load-r-requires
 load-r-requires c =
-    let name = c in
-    let k = turn-named name.requires.4 name.load-k.ensures in
+    let k = turn-named c.requires.4 c.load-k.ensures in
     (omega arith, k.0, k.1)
 
 pub returns : goal.returns
-returns c n m q o T =
-    let size = c in
-    let tail = size in
-    let name = tail in
-    turn_skip T name.load-k.ensures (omega (arith, tail.load-t.ensures, c.if-t-gt0.false)) (omega (arith, size.load-r.ensures, c.if-several.false))
+returns c n m q o T = turn_skip T c.load-k.ensures (omega (arith, c.load-t.ensures, c.if-t-gt0.false)) (omega (arith, c.load-r.ensures, c.if-several.false))

@@ -24,20 +24,14 @@ load-requires-2 c = let T = c.requires.0.4 in (omega arith, omega arith, omega (
 
 pub join-requires : goal.join-requires
 join-requires c =
-    let right = c in
-    let left = right in
-    let out = left in
-    let s = out.requires in
-    turn_asks s.0.4 s.1 (rw s.2 at s.3) _ _ s.2 s.4 out.take_out.ensures (sym left.load.ensures ∙ c.if-load.true ∙ right.load-2.ensures)
+    let s = c.requires in
+    turn_asks s.0.4 s.1 (rw s.2 at s.3) _ _ s.2 s.4 c.take_out.ensures (sym c.load.ensures ∙ c.if-load.true ∙ c.load-2.ensures)
 
 pub returns-then-load : goal.returns-then-load
 returns-then-load c n m q o T =
-    let right = c in
-    let left = right in
-    let out = left in
-    let s = out.requires in
-    turn_join T s.1 (rw s.2 at s.3) _ _ s.2 s.4 out.take_out.ensures
-    (sym left.load.ensures ∙ c.if-load.true ∙ right.load-2.ensures) c.join.ensures
+    let s = c.requires in
+    turn_join T s.1 (rw s.2 at s.3) _ _ s.2 s.4 c.take_out.ensures
+    (sym c.load.ensures ∙ c.if-load.true ∙ c.load-2.ensures) c.join.ensures
 
 pub overflow_add-h : goal.overflow_add-h
 overflow_add-h c = omega (arith, (turn-room c.requires.0.4).0)
@@ -52,11 +46,7 @@ begin_part-requires c =
 
 pub returns : goal.returns
 returns c n m q o T =
-    let other = c in
-    let right = other in
-    let left = right in
-    let out = left in
-    let s = out.requires in
+    let s = c.requires in
     rw c.begin_part.ensures
-    (turn_begin T s.1 (rw s.2 at s.3) _ _ s.2 s.4 out.take_out.ensures
-    (λ e. other.if-load.false (left.load.ensures ∙ e ∙ sym right.load-2.ensures)))
+    (turn_begin T s.1 (rw s.2 at s.3) _ _ s.2 s.4 c.take_out.ensures
+    (λ e. c.if-load.false (c.load.ensures ∙ e ∙ sym c.load-2.ensures)))

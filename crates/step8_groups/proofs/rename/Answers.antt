@@ -12,14 +12,12 @@ use Rattle.step8_groups.proofs.rename.Goals as goal
 -- the walk stays within the array
 walk_inside : (c : In-loop-d) → (1 ≤ c.loop-d.j + c.loop-d.d) × (c.loop-d.j + c.loop-d.d ≤ 1000)
 walk_inside c =
-    let s = c in
-    let W = s.requires.1 in
-    (omega (arith, c.loop-d-test.true), sweep_inside _ _ _ _ _ c.loop-d.invariant W.0 (rw (s.store_wide.ensures, row_other _ NAME _ _ DIST refl) W.1))
+    let W = c.requires.1 in
+    (omega (arith, c.loop-d-test.true), sweep_inside _ _ _ _ _ c.loop-d.invariant W.0 (rw (c.store_wide.ensures, row_other _ NAME _ _ DIST refl) W.1))
 
 pub loop-d-init : goal.loop-d-init
 loop-d-init c =
-    let w = c in
-    rw (c.store_wide.ensures, c.load_wide-d.ensures) (sweep_begins _ _ _ w.wide-j.ensures w.requires.0)
+    rw (c.store_wide.ensures, c.load_wide-d.ensures) (sweep_begins _ _ _ c.wide-j.ensures c.requires.0)
 
 pub overflow_add-j : goal.overflow_add-j
 overflow_add-j c = omega (arith, walk_inside (goal.at.overflow_add-j c).In-loop-d, c.loop-d-test.true)
@@ -31,14 +29,12 @@ pub load_wide-d-requires-in-loop-d : goal.load_wide-d-requires-in-loop-d
 load_wide-d-requires-in-loop-d c = omega (arith, walk_inside (goal.at.load_wide-d-requires-in-loop-d c).In-loop-d, c.loop-d-test.true)
 
 pub loop-d-smaller : goal.loop-d-smaller
-loop-d-smaller c = let i = c in omega (arith, walk_inside (goal.at.loop-d-smaller c).In-loop-d, i.loop-d-test.true)
+loop-d-smaller c = omega (arith, walk_inside (goal.at.loop-d-smaller c).In-loop-d, c.loop-d-test.true)
 
 pub loop-d-preserved : goal.loop-d-preserved
 loop-d-preserved c =
-    let i = c in
-    rw (c.load_wide-d-in-loop-d.ensures, c.store_wide-in-loop-d.ensures) (sweep_goes_on _ _ _ _ _ i.loop-d.invariant i.loop-d-test.true)
+    rw (c.load_wide-d-in-loop-d.ensures, c.store_wide-in-loop-d.ensures) (sweep_goes_on _ _ _ _ _ c.loop-d.invariant c.loop-d-test.true)
 
 pub returns : goal.returns
 returns c =
-    let w = c in
-    sweep_ends _ _ _ w.wide-j.ensures w.requires.0 _ _ _ (rw c.store_wide.ensures at c.loop-d.invariant) (omega (arith, c.loop-d-test.false))
+    sweep_ends _ _ _ c.wide-j.ensures c.requires.0 _ _ _ (rw c.store_wide.ensures at c.loop-d.invariant) (omega (arith, c.loop-d-test.false))

@@ -1,16 +1,16 @@
--- `step9_parts::better` meets its contract: the way of the code is the way of `better_of`. Assumes nothing.
-use borrow.Author.Tests.{lt-ltb, le-ltb}
+-- `step9_parts::better` meets its contract: the order of the pairs is the way of `better_of`. Assumes nothing.
+use Prim.Native.Nat.{ℕ}
+use mathlib.Core.Path.{◌≡◌, ◌∙◌}
+use native.Mathlib.Omega.{arith}
+use Rattle.std.specs.Prelude.{Some}
+use Rattle.std.specs.Ordering.{nat_cmp, is_lt, is_some_and, partial_ordering_then}
+use Rattle.std.proofs.lemmas.Bool.Decides.{nat_tests}
 use Rattle.step9_parts.specs.Turns.{better_of}
 use Rattle.step9_parts.proofs.better.Goals as goal
 
-pub returns-then-z-y : goal.returns-then-z-y
+pairs_less : (b z c y : ℕ) → is_some_and is_lt (partial_ordering_then (Some (nat_cmp z y)) (Some (nat_cmp c b))) ≡ better_of b z c y
 unfolding better_of
-returns-then-z-y c = rw (lt-ltb _ _ c.if-z-y.true)
-
-pub returns-then-y-z : goal.returns-then-y-z
-unfolding better_of
-returns-then-y-z c = rw (le-ltb _ _ c.if-z-y.false, lt-ltb _ _ c.if-y-z.true)
+pairs_less b z c y = grind (arith, nat_tests)
 
 pub returns : goal.returns
-unfolding better_of
-returns c = rw (le-ltb _ _ c.if-z-y.false, le-ltb _ _ c.if-y-z.false)
+returns c = c.lt.ensures ∙ pairs_less _ _ _ _

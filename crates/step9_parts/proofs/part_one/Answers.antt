@@ -3,17 +3,10 @@ use Rattle.step9_parts.proofs.Weighing.{turn-walk, turn-done}
 use Rattle.step9_parts.proofs.part_one.Goals as goal
 
 pub rename-requires : goal.rename-requires
-rename-requires c =
-    let w = c in
-    let D = w.requires.1 in
-    turn-walk _ _ _ _ _ _ D.long w.weigh.ensures.1 c.store.ensures D.walk
+rename-requires c = turn-walk _ _ _ _ _ _ c.requires.long c.weigh.ensures.0 c.store.ensures c.requires.walk
 
 pub returns : goal.returns
 returns c =
-    let y = c in
-    let w = y in
-    let l = w in
-    let n = c.rename.ensures in (
-      w.weigh.ensures.0,
-      turn-done _ _ _ _ _ _ l.requires.1.long w.weigh.ensures.1 c.store.ensures l.load-k.ensures w.weigh.ensures.2 y.load-y.ensures n.0 n.1 n.2,
-    )
+    let w = c.weigh.ensures in
+    let n = c.rename.ensures in
+    turn-done _ _ _ _ _ _ c.requires.long w.0 c.store.ensures c.load-k.ensures w.1 c.load-y.ensures n.0 n.1 n.2

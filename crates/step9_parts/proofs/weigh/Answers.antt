@@ -5,22 +5,15 @@ use Rattle.step9_parts.proofs.weigh.Goals as goal
 
 pub returns-then-b-eq0 : goal.returns-then-b-eq0
 returns-then-b-eq0 c =
-    let l = c in
-    let W = weigh_first _ _ _ _ l.load-b.ensures c.if-b-eq0.true in
-    (l.requires.0, c.store.ensures ∙ W.0, W.1)
+    let W = weigh_first _ _ _ _ c.load-b.ensures c.if-b-eq0.true in
+    (c.store.ensures ∙ W.0, W.1)
 
 pub returns-then-better : goal.returns-then-better
 returns-then-better c =
-    let t = c in
-    let o = t in
-    let l = o in
-    let W = weigh_takes _ _ _ _ l.load-b.ensures o.load.ensures o.load-2.ensures o.if-b-eq0.false (sym t.better.ensures ∙ t.if-better.true) in
-    (c.mark.ensures.0, c.store-then-better.ensures ∙ W.0, c.mark.ensures.1 ∙ W.1)
+    let W = weigh_takes _ _ _ _ c.load-b.ensures c.load.ensures c.load-2.ensures c.if-b-eq0.false (sym c.better.ensures ∙ c.if-better.true) in
+    (c.store-then-better.ensures ∙ W.0, c.mark.ensures ∙ W.1)
 
 pub returns : goal.returns
 returns c =
-    let t = c in
-    let o = t in
-    let l = o in
-    let W = weigh_keeps _ _ _ _ l.load-b.ensures o.load.ensures o.load-2.ensures o.if-b-eq0.false (sym t.better.ensures ∙ t.if-better.false) l.requires.3 in
-    (c.mark-2.ensures.0, W.0, c.mark-2.ensures.1 ∙ W.1)
+    let W = weigh_keeps _ _ _ _ c.load-b.ensures c.load.ensures c.load-2.ensures c.if-b-eq0.false (sym c.better.ensures ∙ c.if-better.false) c.requires.2 in
+    (W.0, c.mark-2.ensures ∙ W.1)

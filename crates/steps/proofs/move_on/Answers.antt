@@ -11,7 +11,7 @@ pub part_all-requires : goal.part_all-requires
 part_all-requires c =
     let D = c.requires in
     let M = c.move_all-made.ensures in
-    (D.sound, D.empty, (_, _, (c.group_all.ensures _ _ (moved_turnable _ _ _ _ _ D _ _ _ M)).0))
+    (D.empty, (_, _, (c.group_all.ensures _ _ (moved_turnable _ _ _ _ _ D _ _ _ M)).0))
 
 pub returns : goal.returns
 returns c =

@@ -10,13 +10,11 @@ use Rattle.text_answers.proofs.put_line.Goals as goal
 
 pub overflow_add-k : goal.overflow_add-k
 overflow_add-k c =
-    let s = c in
-    omega (arith, room_fits line_size s.args.list.now (s.args.k + 1) (omega (arith, s.requires.0)), mul-le-mul_right (s.args.k + 1) line-some)
+    omega (arith, room_fits line_size c.args.list.now (c.args.k + 1) (omega (arith, c.requires.0)), mul-le-mul_right (c.args.k + 1) line-some)
 
 pub put_numbers-requires : goal.put_numbers-requires
 put_numbers-requires c =
-    let l = c in
-    rw (c.part.ensures, l.line_size.ensures) (rw line_is at l.requires.1)
+    rw (c.part.ensures, c.line_size.ensures) (rw line_is at c.requires.1)
 
 pub returns : goal.returns
-returns c = let l = c in rw (line_is, ← l.line_size.ensures, ← c.part.ensures) c.put_numbers.ensures
+returns c = rw (line_is, ← c.line_size.ensures, ← c.part.ensures) c.put_numbers.ensures

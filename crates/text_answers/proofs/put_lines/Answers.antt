@@ -13,27 +13,23 @@ use Rattle.text_answers.proofs.put_lines.Goals as goal
 
 pub loop-k-init : goal.loop-k-init
 unfolding gather
-loop-k-init c = (omega arith, refl, puts_none c.requires.1)
+loop-k-init c = (refl, puts_none c.requires.1)
 
 pub put_line-next-requires : goal.put_line-next-requires
 unfolding lines_text
 put_line-next-requires c =
-    let s = c in
     let t = c.loop-k-test.true in
-    (fits-room line_size line-some _ _ (omega (arith, mul-le-mul_left line_size t, s.requires.0)), turn-room (line_text s.args.list.now) 0 t s.requires.1 c.loop-k.invariant.2 (zero-add _))
+    (fits-room line_size line-some _ _ (omega (arith, mul-le-mul_left line_size t, c.requires.0)), turn-room (line_text c.args.list.now) 0 t c.requires.1 c.loop-k.invariant.1 (zero-add _))
 
 pub loop-k-preserved : goal.loop-k-preserved
 unfolding lines_text
-loop-k-preserved c =
-    let t = c in
-    let s = t in (
-      omega arith,
-      omega arith,
-      turn_puts (line_text s.args.list.now) 0 t.loop-k-test.true s.requires.1 t.loop-k.invariant.2 (zero-add _) c.put_line-next.ensures,
-    )
+loop-k-preserved c = (
+  omega arith,
+  turn_puts (line_text c.args.list.now) 0 c.loop-k-test.true c.requires.1 c.loop-k.invariant.1 (zero-add _) c.put_line-next.ensures,
+)
 
 pub returns : goal.returns
 unfolding lines_text
 returns c =
     let e : c.loop-k.k ≡ c.args.count = omega arith in
-    rw e at c.loop-k.invariant.2
+    rw e at c.loop-k.invariant.1

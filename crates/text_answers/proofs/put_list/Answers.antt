@@ -11,48 +11,29 @@ put_word-at-requires c = read_room _ _ _ c.requires.1
 pub put_number-at-requires : goal.put_number-at-requires
 unfolding ascii
 put_number-at-requires c =
-    let w₁ = c in
-    let s = w₁ in
-    second_room _ _ _ (first-room _ _ _ (rw list_is at s.requires.1)) w₁.put_word-at.ensures
+    second_room _ _ _ (first-room _ _ _ (rw list_is at c.requires.1)) c.put_word-at.ensures
 
 pub put_word-at-requires-2 : goal.put_word-at-requires-2
 unfolding ascii
 put_word-at-requires-2 c =
-    let n₁ = c in
-    let w₁ = n₁ in
-    let s = w₁ in
-    third_room _ _ _ (first-room _ _ _ (rw list_is at s.requires.1)) w₁.put_word-at.ensures n₁.put_number-at.ensures
+    third_room _ _ _ (first-room _ _ _ (rw list_is at c.requires.1)) c.put_word-at.ensures c.put_number-at.ensures
 
 pub put_number-at-requires-2 : goal.put_number-at-requires-2
 unfolding ascii
 put_number-at-requires-2 c =
-    let w₂ = c in
-    let n₁ = w₂ in
-    let w₁ = n₁ in
-    let s = w₁ in
-    let h = rw list_is at s.requires.1 in
-    second_room _ _ _ h (three_puts _ _ _ (first-room _ _ _ h) w₁.put_word-at.ensures n₁.put_number-at.ensures w₂.put_word-at-2.ensures)
+    let h = rw list_is at c.requires.1 in
+    second_room _ _ _ h (three_puts _ _ _ (first-room _ _ _ h) c.put_word-at.ensures c.put_number-at.ensures c.put_word-at-2.ensures)
 
 pub put_lines-requires : goal.put_lines-requires
 unfolding ascii
 put_lines-requires c =
-    let n₂ = c in
-    let w₂ = n₂ in
-    let n₁ = w₂ in
-    let w₁ = n₁ in
-    let s = w₁ in
-    let h = rw list_is at s.requires.1 in
-    let p = three_puts _ _ _ (first-room _ _ _ h) w₁.put_word-at.ensures n₁.put_number-at.ensures w₂.put_word-at-2.ensures in
-    (s.requires.0, third_room _ _ _ h p n₂.put_number-at-2.ensures)
+    let h = rw list_is at c.requires.1 in
+    let p = three_puts _ _ _ (first-room _ _ _ h) c.put_word-at.ensures c.put_number-at.ensures c.put_word-at-2.ensures in
+    (c.requires.0, third_room _ _ _ h p c.put_number-at-2.ensures)
 
 pub returns : goal.returns
 unfolding ascii
 returns c =
-    let n₂ = c in
-    let w₂ = n₂ in
-    let n₁ = w₂ in
-    let w₁ = n₁ in
-    let s = w₁ in
-    let h = rw list_is at s.requires.1 in
-    let p = three_puts _ _ _ (first-room _ _ _ h) w₁.put_word-at.ensures n₁.put_number-at.ensures w₂.put_word-at-2.ensures in
-    rw list_is (three_puts _ _ _ h p n₂.put_number-at-2.ensures c.put_lines.ensures)
+    let h = rw list_is at c.requires.1 in
+    let p = three_puts _ _ _ (first-room _ _ _ h) c.put_word-at.ensures c.put_number-at.ensures c.put_word-at-2.ensures in
+    rw list_is (three_puts _ _ _ h p c.put_number-at-2.ensures c.put_lines.ensures)

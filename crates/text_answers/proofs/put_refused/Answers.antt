@@ -11,23 +11,15 @@ put_word-at-requires c = refused-room _ _ c.requires
 pub put_number-at-requires : goal.put_number-at-requires
 unfolding ascii
 put_number-at-requires c =
-    let w = c in
-    let s = w in
-    second_room _ _ _ (rw refused_is at s.requires) w.put_word-at.ensures
+    second_room _ _ _ (rw refused_is at c.requires) c.put_word-at.ensures
 
 pub put_number-requires : goal.put_number-requires
 unfolding ascii
 put_number-requires c =
-    let n = c in
-    let w = n in
-    let s = w in
-    third_room _ _ _ (rw refused_is at s.requires) w.put_word-at.ensures n.put_number-at.ensures
+    third_room _ _ _ (rw refused_is at c.requires) c.put_word-at.ensures c.put_number-at.ensures
 
 pub returns : goal.returns
 unfolding ascii
 returns c =
-    let n = c in
-    let w = n in
-    let s = w in
     rw refused_is
-    (three_puts _ _ _ (rw refused_is at s.requires) w.put_word-at.ensures n.put_number-at.ensures c.put_number.ensures)
+    (three_puts _ _ _ (rw refused_is at c.requires) c.put_word-at.ensures c.put_number-at.ensures c.put_number.ensures)

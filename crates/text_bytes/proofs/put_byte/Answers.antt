@@ -22,6 +22,4 @@ put_digits-requires c =
 
 pub returns : goal.returns
 returns c =
-    let u = c in
-    let v = u in
-    rw (byte_digits _ (sym v.is_plain.ensures ∙ v.if-is_plain.false)) u.put_digits.ensures
+    rw (byte_digits _ (sym c.is_plain.ensures ∙ c.if-is_plain.false)) c.put_digits.ensures

@@ -1,5 +1,6 @@
 -- `text_bytes::put_bytes` meets its contract: after i turns the first i bytes are put. Assumes nothing.
 use mathlib.Core.Path.{◌≡◌, refl}
+use native.Mathlib.Nat.{zero-add}
 use native.Mathlib.Omega.{arith}
 use lib.ListN.{length, get_or}
 use Rattle.words.specs.Range.{gather}
@@ -8,32 +9,22 @@ use Rattle.text_puts.proofs.Pieces.{turn-room, turn_puts}
 use Rattle.text_bytes.specs.Bytes.{byte_text, bytes_text}
 use Rattle.text_bytes.proofs.put_bytes.Goals as goal
 
-pub loop-i-init : goal.loop-i-init
+pub loop-b-init : goal.loop-b-init
 unfolding gather
-loop-i-init c = (omega arith, refl, puts_none c.requires)
+loop-b-init c = (refl, puts_none c.requires)
 
 pub put_byte-next-requires : goal.put_byte-next-requires
 unfolding bytes_text
-put_byte-next-requires c =
-    let u = c in
-    let w = u in
-    let s = w in
-    turn-room (λ k. byte_text (get_or s.args.read.now k 0)) 0 u.loop-i-test.true s.requires w.loop-i.invariant.2 {v = w.loop-i.i} (omega arith)
+put_byte-next-requires c = turn-room (λ k. byte_text (get_or c.args.read.now k 0)) 0 c.loop-b-test.true c.requires c.loop-b.invariant.1 (zero-add _)
 
-pub loop-i-preserved : goal.loop-i-preserved
+pub loop-b-preserved : goal.loop-b-preserved
 unfolding bytes_text
-loop-i-preserved c =
-    let u = c in
-    let w = u in
-    let x = w in
-    let s = x in (
-      omega arith,
-      omega arith,
-      turn_puts (λ k. byte_text (get_or s.args.read.now k 0)) 0 w.loop-i-test.true s.requires x.loop-i.invariant.2 {v = x.loop-i.i} (omega arith)
-          u.put_byte-next.ensures,
-    )
+loop-b-preserved c = (
+  omega arith,
+  turn_puts (λ k. byte_text (get_or c.args.read.now k 0)) 0 c.loop-b-test.true c.requires c.loop-b.invariant.1 (zero-add _) c.put_byte-next.ensures,
+)
 
 pub returns : goal.returns
 unfolding bytes_text
-returns c = let e : c.loop-i.i ≡ length c.args.read.now = omega arith in
-    rw e at c.loop-i.invariant.2
+returns c = let e : c.loop-b.b-index ≡ length c.args.read.now = omega arith in
+    rw e at c.loop-b.invariant.1

@@ -1,5 +1,4 @@
 -- `text_bytes::put_bytes` meets its contract: after i turns the first i bytes are put. Assumes nothing.
-use Prim.Native.Nat.{◌≤◌, ◌-◌}
 use mathlib.Core.Path.{◌≡◌}
 use lib.ListN.{length, get_or}
 use Rattle.words.specs.Range.{gather}
@@ -7,10 +6,6 @@ use Rattle.text_puts.specs.Puts.{Puts}
 use Rattle.text_bytes.specs.Bytes.{byte_text}
 use Rattle.text_bytes.proofs.put_bytes.Given as goal
 
-abbrev pub invariant-loop-i : goal.invariant-loop-i
-invariant-loop-i l =
-    (l.i ≤ length l.read) × (length l.buf ≡ length l.initial.buf) × Puts l.initial.buf l.at
-    (gather (λ k. byte_text (get_or l.read k 0)) l.i 0) l.buf l.next
-
-abbrev pub decreases-loop-i : goal.decreases-loop-i
-decreases-loop-i l = length l.read - l.i
+abbrev pub invariant-loop-b : goal.invariant-loop-b
+invariant-loop-b l =
+    (length l.buf ≡ length l.initial.buf) × Puts l.initial.buf l.at (gather (λ k. byte_text (get_or l.read k 0)) l.b-index 0) l.buf l.next

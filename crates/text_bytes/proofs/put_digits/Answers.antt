@@ -21,16 +21,9 @@ put_word-next-requires c = room-left _ c.requires
 pub put_word-requires : goal.put_word-requires
 unfolding digits_text ascii
 put_word-requires c =
-    let u = c in
-    let v = u in
-    let w = v in
-    rw (spelled (goal.at.put_word-requires c).After-hex-k) (puts_room u.put_word-next.ensures w.requires)
+    rw (spelled (goal.at.put_word-requires c).After-hex-k) (puts_room c.put_word-next.ensures c.requires)
 
 pub returns : goal.returns
 unfolding digits_text ascii
 returns c =
-    let u = c in
-    let v = u in
-    let w = v in
-    let x = w in
-    puts_more v.put_word-next.ensures (rw (← spelled (goal.at.returns c).After-hex-k) u.put_word.ensures) x.requires
+    puts_more c.put_word-next.ensures (rw (← spelled (goal.at.returns c).After-hex-k) c.put_word.ensures) c.requires

@@ -4,6 +4,4 @@ use Rattle.text_groups.proofs.is_alone.Goals as goal
 
 pub returns : goal.returns
 returns c =
-    let u = c in
-    let v = u in
-    alone_is v.args.table.now v.args.i u.wide.ensures c.few_of.result c.few_of.ensures
+    alone_is c.args.links.now.table.now c.args.i c.wide.ensures c.few_of.result c.few_of.ensures

@@ -8,45 +8,25 @@ use Rattle.text_groups.proofs.put_alone.Goals as goal
 
 pub returns-then-count_alone-eq0 : goal.returns-then-count_alone-eq0
 returns-then-count_alone-eq0 c =
-    let u = c in
-    let s = u in
-    rw (alone-none s.args.table.now (omega (arith, u.count_alone.ensures, c.if-count_alone-eq0.true))) (puts_none s.requires.2)
+    rw (alone-none c.args.links.now.table.now (omega (arith, c.count_alone.ensures, c.if-count_alone-eq0.true))) (puts_none c.requires)
 
 pub put_word-next-requires : goal.put_word-next-requires
 unfolding ascii
 put_word-next-requires c =
-    let u = c in
-    let v = u in
-    let s = v in
-    alone-room _ (omega (arith, v.count_alone.ensures, u.if-count_alone-eq0.false)) s.requires.2
+    alone-room _ (omega (arith, c.count_alone.ensures, c.if-count_alone-eq0.false)) c.requires
 
 pub put_singles-next-requires : goal.put_singles-next-requires
 unfolding ascii
 put_singles-next-requires c =
-    let u = c in
-    let v = u in
-    let w = v in
-    let s = w in
-    (s.requires.0, s.requires.1, singles_room _ (omega (arith, w.count_alone.ensures, v.if-count_alone-eq0.false)) s.requires.2 u.put_word-next.ensures)
+    singles_room _ (omega (arith, c.count_alone.ensures, c.if-count_alone-eq0.false)) c.requires c.put_word-next.ensures
 
 pub put_word-requires : goal.put_word-requires
 unfolding ascii
 put_word-requires c =
-    let u = c in
-    let v = u in
-    let w = v in
-    let x = w in
-    let s = x in
-    alone-end-room _ (omega (arith, x.count_alone.ensures, w.if-count_alone-eq0.false)) s.requires.2 v.put_word-next.ensures u.put_singles-next.ensures
+    alone-end-room _ (omega (arith, c.count_alone.ensures, c.if-count_alone-eq0.false)) c.requires c.put_word-next.ensures c.put_singles-next.ensures
 
 pub returns : goal.returns
 unfolding ascii
 returns c =
-    let u = c in
-    let v = u in
-    let w = v in
-    let x = w in
-    let y = x in
-    let s = y in
-    alone_puts _ (omega (arith, y.count_alone.ensures, x.if-count_alone-eq0.false)) s.requires.2 w.put_word-next.ensures v.put_singles-next.ensures
-    u.put_word.ensures
+    alone_puts _ (omega (arith, c.count_alone.ensures, c.if-count_alone-eq0.false)) c.requires c.put_word-next.ensures c.put_singles-next.ensures
+    c.put_word.ensures

@@ -11,33 +11,22 @@ use Rattle.text_groups.proofs.put_groups.Goals as goal
 
 pub loop-i-init : goal.loop-i-init
 unfolding gather
-loop-i-init c = (omega arith, refl, puts_none c.requires.2)
+loop-i-init c = (refl, puts_none c.requires)
 
 pub put_group-next-requires : goal.put_group-next-requires
 unfolding groups_text
 put_group-next-requires c =
-    let u = c in
-    let w = u in
-    let s = w in (
-      s.requires.0,
-      s.requires.1,
-      turn-room (group_text s.args.table.now) 1 u.loop-i-test.true s.requires.2 w.loop-i.invariant.2 {v = w.loop-i.i + 1} (omega arith),
-    )
+    turn-room (group_text c.args.links.now.table.now) 1 c.loop-i-test.true c.requires c.loop-i.invariant.1 {v = c.loop-i.i + 1} (omega arith)
 
 pub loop-i-preserved : goal.loop-i-preserved
 unfolding groups_text
-loop-i-preserved c =
-    let u = c in
-    let w = u in
-    let x = w in
-    let s = x in (
-      omega arith,
-      omega arith,
-      turn_puts (group_text s.args.table.now) 1 w.loop-i-test.true s.requires.2 x.loop-i.invariant.2 {v = x.loop-i.i + 1} (omega arith)
-          u.put_group-next.ensures,
-    )
+loop-i-preserved c = (
+  omega arith,
+  turn_puts (group_text c.args.links.now.table.now) 1 c.loop-i-test.true c.requires c.loop-i.invariant.1 {v = c.loop-i.i + 1} (omega arith)
+      c.put_group-next.ensures,
+)
 
 pub returns : goal.returns
 unfolding groups_text
-returns c = let e : c.loop-i.i ≡ length c.args.table.now = omega arith in
-    rw e at c.loop-i.invariant.2
+returns c = let e : c.loop-i.i ≡ length c.args.links.now.table.now = omega arith in
+    rw e at c.loop-i.invariant.1

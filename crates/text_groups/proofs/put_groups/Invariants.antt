@@ -1,5 +1,4 @@
 -- `text_groups::put_groups` meets its contract: after i turns the lines of the first i names are put. Assumes nothing.
-use Prim.Native.Nat.{◌≤◌, ◌-◌}
 use mathlib.Core.Path.{◌≡◌}
 use lib.ListN.{length}
 use Rattle.words.specs.Range.{gather}
@@ -8,7 +7,4 @@ use Rattle.text_groups.specs.Groups.{group_text}
 use Rattle.text_groups.proofs.put_groups.Given as goal
 
 abbrev pub invariant-loop-i : goal.invariant-loop-i
-invariant-loop-i l = (l.i ≤ length l.table) × (length l.buf ≡ length l.initial.buf) × Puts l.initial.buf l.at (gather (group_text l.table) l.i 1) l.buf l.next
-
-abbrev pub decreases-loop-i : goal.decreases-loop-i
-decreases-loop-i l = length l.table - l.i
+invariant-loop-i l = (length l.buf ≡ length l.initial.buf) × Puts l.initial.buf l.at (gather (group_text l.links.table.now) l.i 1) l.buf l.next

@@ -1,50 +1,37 @@
 -- `text_groups::put_members` meets its contract: the members before the link are put, all of them where it is none. Assumes nothing.
-use mathlib.Core.Path.{◌≡◌, refl}
+use mathlib.Core.Path.{refl}
 use native.Mathlib.Omega.{arith}
 use Rattle.text_puts.proofs.Putting.{puts_none}
-use Rattle.text_groups.proofs.Walks.{next-link, walk_start, walk_end, on_is, walk_less, walk-room, walk_puts}
+use Rattle.text_groups.proofs.Walks.{next-link, walk_start, walk_end, walk-link, walk_less, walk-room, walk_puts}
 use Rattle.text_groups.proofs.put_members.Goals as goal
 
-pub loop-i-init : goal.loop-i-init
-loop-i-init c =
-    let s = c in
-    let t = s.args.table.now in
-    let v = s.args.s in
-    rw c.first_of-i.ensures (next-link t v 0, refl, rw (walk_start t v) (puts_none s.requires.2))
+pub loop-here-init : goal.loop-here-init
+loop-here-init c =
+    let e = c.first_of-here.ensures in
+    (next-link _ _ 0 _ e, refl, rw (walk_start _ _ _ e) (puts_none c.requires))
 
 pub put_spaced-next-requires : goal.put_spaced-next-requires
 put_spaced-next-requires c =
-    let u = c in
-    let v = u in
-    let s = v in
-    walk-room s.args.table.now s.args.s v.loop-i.i v.loop-i.invariant.0 u.loop-i-test.true s.requires.2 v.loop-i.invariant.2
+    let i = rw c.in-Some.is at c.loop-here.invariant in
+    walk-room _ _ _ i.0 c.requires i.2
 
-pub loop-i-smaller : goal.loop-i-smaller
-loop-i-smaller c =
-    let u = c in
-    let v = u in
-    let s = v in
-    let t = s.args.table.now in
-    rw (c.next_of-i.ensures, on_is t s.args.s v.loop-i.i v.loop-i.invariant.0 u.loop-i-test.true)
-    (walk_less t s.args.s v.loop-i.i v.loop-i.invariant.0 u.loop-i-test.true)
+pub next_of-here-requires : goal.next_of-here-requires
+next_of-here-requires c =
+    let i = rw c.in-Some.is at c.loop-here.invariant in
+    (i.0.0, i.0.1)
 
-pub loop-i-preserved : goal.loop-i-preserved
-loop-i-preserved c =
-    let u = c in
-    let v = u in
-    let s = v in
-    let t = s.args.table.now in
-    let h = v.loop-i.invariant.0 in
-    let l = u.loop-i-test.true in
-    rw (c.next_of-i.ensures, on_is t s.args.s v.loop-i.i h l) (
-      next-link t s.args.s v.loop-i.i,
-      omega arith,
-      walk_puts t s.args.s v.loop-i.i h l s.requires.2 v.loop-i.invariant.2 c.put_spaced-next.ensures,
-    )
+pub loop-here-smaller : goal.loop-here-smaller
+loop-here-smaller c =
+    let i = rw c.in-Some.is at c.loop-here.invariant in
+    rw c.in-Some.is (walk_less _ _ _ i.0 c.next_of-here.ensures)
+
+pub loop-here-preserved : goal.loop-here-preserved
+loop-here-preserved c =
+    let i = rw c.in-Some.is at c.loop-here.invariant in
+    let e = c.next_of-here.ensures in
+    (walk-link _ _ _ i.0 e, omega arith, walk_puts _ _ _ i.0 e c.requires i.2 c.put_spaced-next.ensures)
 
 pub returns : goal.returns
 returns c =
-    let l = c.loop-i in
-    let s = c in
-    let e : l.i ≡ 0 = omega arith in
-    rw (← walk_end s.args.table.now s.args.s, ← e) l.invariant.2
+    let i = rw c.in_default.is at c.loop-here.invariant in
+    rw (← walk_end c.args.links.now.table.now c.args.s) i.2

@@ -6,8 +6,10 @@ use Rattle.text_puts.specs.Puts.{Puts}
 use Rattle.text_groups.proofs.Walks.{passed, passed_text, Link}
 use Rattle.text_groups.proofs.put_members.Given as goal
 
-abbrev pub invariant-loop-i : goal.invariant-loop-i
-invariant-loop-i l = Link l.table l.s l.i × (length l.buf ≡ length l.initial.buf) × Puts l.initial.buf l.at (passed_text l.table l.s l.i) l.buf l.next
+abbrev pub invariant-loop-here : goal.invariant-loop-here
+invariant-loop-here l =
+    Link l.links.table.now l.s l.here × (length l.buf ≡ length l.initial.buf)
+    × Puts l.initial.buf l.at (passed_text l.links.table.now l.s l.here) l.buf l.next
 
-abbrev pub decreases-loop-i : goal.decreases-loop-i
-decreases-loop-i l = length l.table - passed l.table l.i
+abbrev pub decreases-loop-here : goal.decreases-loop-here
+decreases-loop-here l = length l.links.table.now - passed l.links.table.now l.here

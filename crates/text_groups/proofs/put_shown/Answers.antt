@@ -9,5 +9,5 @@ put_spaced-requires c = rw (shown_yes _ c.if-test.true) at c.requires
 pub returns-then-test : goal.returns-then-test
 returns-then-test c = rw (shown_yes _ c.if-test.true) c.put_spaced.ensures
 
-pub returns : goal.returns
-returns c = rw (shown_no _ c.if-test.false) (puts_none c.requires)
+pub returns-else-test : goal.returns-else-test
+returns-else-test c = rw (shown_no _ c.if-test.false) (puts_none c.requires)

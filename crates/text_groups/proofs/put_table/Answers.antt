@@ -8,7 +8,4 @@ link-k-requires c = bare_zeros
 
 pub returns : goal.returns
 returns c =
-    let u = c in
-    let v = u in
-    let s = v in
-    both_puts _ _ s.requires v.put_groups-next.ensures u.put_alone.ensures
+    both_puts _ _ c.requires c.put_groups-next.ensures c.put_alone.ensures

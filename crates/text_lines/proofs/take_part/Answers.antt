@@ -1,34 +1,23 @@
 -- `text_lines::take_part` meets its contract: the part up to the newline is kept and counted. Assumes nothing.
-use Prim.Native.Nat.{◌≤◌}
-use lib.ListN.{length}
+use Prim.Native.Nat.{◌+◌, ◌-◌}
+use mathlib.Core.Path.{◌≡◌, ◌∙◌}
 use native.Mathlib.Omega.{arith}
-use Rattle.text_lines.proofs.Newlines.{end_bounds}
-use Rattle.text_lines.proofs.Parts.{part_ended, part_unended}
-use Rattle.text_lines.proofs.take_part.Goals.{After-newline-e}
+use borrow.Author.Rules.{rules}
+use lib.ListN.{length, length-drop, take, drop}
+use lib.Seq.{take_all}
+use Rattle.std.specs.Option.{option_map}
+use Rattle.text_lines.specs.Lines.{counted}
+use Rattle.text_lines.proofs.Parts.{part_length, part_next, keeps_on}
 use Rattle.text_lines.proofs.take_part.Goals as goal
 
--- the part lies in the chunk
-part-inside : (c : After-newline-e) →
-    let a = c.args in
-    (a.from ≤ c.newline-e.result) × (c.newline-e.result ≤ length a.chunk.now)
-part-inside c = end_bounds _ _ c.requires c.newline-e.ensures
-
-pub slice_bounds-keep-count : goal.slice_bounds-keep-count
-slice_bounds-keep-count c = omega (arith, (part-inside (goal.at.slice_bounds-keep-count c).After-newline-e).0)
-
-pub slice_bounds-keep-start : goal.slice_bounds-keep-start
-slice_bounds-keep-start c = (part-inside (goal.at.slice_bounds-keep-start c).After-newline-e).0
-
-pub slice_bounds-keep-end : goal.slice_bounds-keep-end
-slice_bounds-keep-end c = (part-inside (goal.at.slice_bounds-keep-end c).After-newline-e).1
-
-pub overflow_sub-e : goal.overflow_sub-e
-overflow_sub-e c = (part-inside (goal.at.overflow_sub-e c).After-newline-e).0
-
-pub returns-then-e-chunk : goal.returns-then-e-chunk
-returns-then-e-chunk c =
-    part_ended _ _ c.requires c.newline-e.ensures _ _ c.well_formed.1.1.0.0 c.keep.ensures c.longer-len.ensures c.if-e-chunk.true
-
 pub returns : goal.returns
+unfolding counted
 returns c =
-    part_unended _ _ c.requires c.newline-e.ensures _ _ c.well_formed.1.1.0.0 c.keep.ensures c.longer-len.ensures c.if-e-chunk.false
+    let a = c.args in
+    let left : take (length a.chunk.now - a.from) (drop a.from a.chunk.now) ≡ drop a.from a.chunk.now = take_all _ _ (omega (arith, length-drop a.from a.chunk.now)) in
+    let next : c.map.result ≡ option_map (λ i. a.from + i + 1) c.newline-found.result = search rules in
+    let end = c.unwrap_or-n.ensures ∙ part_length _ _ c.requires left c.newline-found.ensures in
+    record {
+      next = next ∙ part_next _ _ c.requires left c.newline-found.ensures;
+      keeps = keeps_on _ _ c.requires end _ _ c.well_formed.1.1.0.0 (rw left at c.keep.ensures) c.saturating_add.ensures;
+    }

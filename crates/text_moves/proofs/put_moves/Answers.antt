@@ -11,40 +11,27 @@ use Rattle.text_moves.proofs.put_moves.Goals as goal
 
 pub loop-k-init : goal.loop-k-init
 unfolding gather
-loop-k-init c = (omega arith, refl, puts_none c.requires)
+loop-k-init c = (refl, puts_none c.requires)
 
 pub put_move-next-requires : goal.put_move-next-requires
 unfolding moves_text
 put_move-next-requires c =
-    let u = c in
-    let v = u in
-    let w = v in
-    let s = w in
-    let n = w.entries-count.ensures in (
-      omega (arith, w.entries-count.ensures),
-      turn-room (move_text s.args.moves.now) 0 u.loop-k-test.true (rw (← n) at s.requires) v.loop-k.invariant.2 {v = v.loop-k.k} (omega arith),
+    let n = c.entries-count.ensures in (
+      omega (arith, c.entries-count.ensures),
+      turn-room (move_text c.args.moves.now) 0 c.loop-k-test.true (rw (← n) at c.requires) c.loop-k.invariant.1 {v = c.loop-k.k} (omega arith),
     )
 
 pub loop-k-preserved : goal.loop-k-preserved
 unfolding moves_text
 loop-k-preserved c =
-    let u = c in
-    let v = u in
-    let w = v in
-    let x = w in
-    let s = x in
-    let n = x.entries-count.ensures in (
+    let n = c.entries-count.ensures in (
       omega arith,
-      omega arith,
-      turn_puts (move_text s.args.moves.now) 0 v.loop-k-test.true (rw (← n) at s.requires) w.loop-k.invariant.2 {v = w.loop-k.k} (omega arith)
-          u.put_move-next.ensures,
+      turn_puts (move_text c.args.moves.now) 0 c.loop-k-test.true (rw (← n) at c.requires) c.loop-k.invariant.1 {v = c.loop-k.k} (omega arith)
+          c.put_move-next.ensures,
     )
 
 pub returns : goal.returns
 unfolding moves_text
 returns c =
-    let u = c in
-    let v = u in
-    let s = v in
-    let e : u.loop-k.k ≡ rows move_size s.args.moves.now = omega (arith, v.entries-count.ensures) in
-    rw e at u.loop-k.invariant.2
+    let e : c.loop-k.k ≡ rows move_size c.args.moves.now = omega (arith, c.entries-count.ensures) in
+    rw e at c.loop-k.invariant.1

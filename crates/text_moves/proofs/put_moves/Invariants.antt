@@ -1,5 +1,4 @@
 -- `text_moves::put_moves` meets its contract: after k turns the texts of the first k entries are put. Assumes nothing.
-use Prim.Native.Nat.{◌≤◌, ◌-◌}
 use mathlib.Core.Path.{◌≡◌}
 use lib.ListN.{length}
 use Rattle.words.specs.Range.{gather}
@@ -8,7 +7,4 @@ use Rattle.text_moves.specs.Moves.{move_text}
 use Rattle.text_moves.proofs.put_moves.Given as goal
 
 abbrev pub invariant-loop-k : goal.invariant-loop-k
-invariant-loop-k l = (l.k ≤ l.count) × (length l.buf ≡ length l.initial.buf) × Puts l.initial.buf l.at (gather (move_text l.moves) l.k 0) l.buf l.next
-
-abbrev pub decreases-loop-k : goal.decreases-loop-k
-decreases-loop-k l = l.count - l.k
+invariant-loop-k l = (length l.buf ≡ length l.initial.buf) × Puts l.initial.buf l.at (gather (move_text l.moves) l.k 0) l.buf l.next

@@ -9,32 +9,17 @@ use Rattle.text_moves.proofs.put_under.Goals as goal
 pub put_word-next-requires : goal.put_word-next-requires
 unfolding ascii
 put_word-next-requires c =
-    let u = c in
-    let v = u in
-    let w = v in
-    let s = w in
-    moved-room _ _ u.name_of-name.ensures (sym w.is_first.ensures ∙ v.if-is_first.true) s.requires.1
+    moved-room _ _ c.name_of-name.ensures (sym c.is_first.ensures ∙ c.if-is_first.true) c.requires.1
 
 pub put_number-requires : goal.put_number-requires
 unfolding ascii
 put_number-requires c =
-    let u = c in
-    let v = u in
-    let w = v in
-    let x = w in
-    let s = x in
-    under-name-room _ _ v.name_of-name.ensures (sym x.is_first.ensures ∙ w.if-is_first.true) s.requires.1 u.put_word-next.ensures
+    under-name-room _ _ c.name_of-name.ensures (sym c.is_first.ensures ∙ c.if-is_first.true) c.requires.1 c.put_word-next.ensures
 
 pub returns-then-is_first : goal.returns-then-is_first
 unfolding ascii
 returns-then-is_first c =
-    let u = c in
-    let v = u in
-    let w = v in
-    let x = w in
-    let y = x in
-    let s = y in
-    under_puts _ _ w.name_of-name.ensures (sym y.is_first.ensures ∙ x.if-is_first.true) s.requires.1 v.put_word-next.ensures u.put_number.ensures
+    under_puts _ _ c.name_of-name.ensures (sym c.is_first.ensures ∙ c.if-is_first.true) c.requires.1 c.put_word-next.ensures c.put_number.ensures
 
 pub returns : goal.returns
 returns c = rw (under_later _ _ (sym c.is_first.ensures ∙ c.if-is_first.false)) (puts_none c.requires.1)

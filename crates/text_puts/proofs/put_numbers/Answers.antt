@@ -11,27 +11,23 @@ use Rattle.text_puts.proofs.put_numbers.Goals as goal
 
 pub loop-i-init : goal.loop-i-init
 unfolding gather
-loop-i-init c = (omega arith, refl, puts_none c.requires)
+loop-i-init c = (refl, puts_none c.requires)
 
 pub put_cell-next-requires : goal.put_cell-next-requires
 unfolding numbers_text
 put_cell-next-requires c =
-    let s = c in
     let t = c.loop-i-test.true in
-    (t, turn-room (cell_text s.args.row.now) 0 t s.requires c.loop-i.invariant.2 (zero-add _))
+    (t, turn-room (cell_text c.args.row.now) 0 t c.requires c.loop-i.invariant.1 (zero-add _))
 
 pub loop-i-preserved : goal.loop-i-preserved
 unfolding numbers_text
-loop-i-preserved c =
-    let t = c in
-    let s = t in (
-      omega arith,
-      omega arith,
-      turn_puts (cell_text s.args.row.now) 0 t.loop-i-test.true s.requires t.loop-i.invariant.2 (zero-add _) c.put_cell-next.ensures,
-    )
+loop-i-preserved c = (
+  omega arith,
+  turn_puts (cell_text c.args.row.now) 0 c.loop-i-test.true c.requires c.loop-i.invariant.1 (zero-add _) c.put_cell-next.ensures,
+)
 
 pub returns : goal.returns
 unfolding numbers_text
 returns c =
     let e : c.loop-i.i ≡ length c.args.row.now = omega arith in
-    rw e at c.loop-i.invariant.2
+    rw e at c.loop-i.invariant.1

@@ -3,8 +3,8 @@ use borrow.Author.Rules.{rules}
 use Rattle.text_streams.proofs.Turns.{turned_cut, turned_spent}
 use Rattle.text_streams.proofs.turn.Goals as goal
 
-pub returns-then-p : goal.returns-then-p
-returns-then-p c = turned_cut _ _ _ _ c.requires.0 c.take_part-p.ensures c.if-p.true
+pub returns-in-Some : goal.returns-in-Some
+returns-in-Some c = turned_cut _ _ _ _ c.requires.0 c.take_part-p.ensures (search rules)
 
 pub returns : goal.returns
 returns c =

@@ -6,30 +6,23 @@ use Rattle.text_views.proofs.put_verdict.Goals as goal
 
 pub put_word-requires : goal.put_word-requires
 unfolding ascii
-put_word-requires c = rw (verdict-agree _ c.if-w-eq0.true) at c.requires
+put_word-requires c = rw (verdict-agree _ c.if-agree.true) at c.requires
 
-pub returns-then-w-eq0 : goal.returns-then-w-eq0
+pub returns-then-agree : goal.returns-then-agree
 unfolding ascii
-returns-then-w-eq0 c = rw (verdict-agree _ c.if-w-eq0.true) c.put_word.ensures
+returns-then-agree c = rw (verdict-agree _ c.if-agree.true) c.put_word.ensures
 
 pub put_word-next-requires : goal.put_word-next-requires
 unfolding ascii
-put_word-next-requires c = room-left _ (rw (verdict_differ _ c.if-w-eq0.false) at c.requires)
+put_word-next-requires c = room-left _ (rw (verdict_differ _ c.if-agree.false) at c.requires)
 
 pub put_number-requires : goal.put_number-requires
 unfolding ascii
 put_number-requires c =
-    let u = c in
-    let v = u in
-    let w = v in
-    puts_room u.put_word-next.ensures (rw (verdict_differ _ v.if-w-eq0.false) at w.requires)
+    puts_room c.put_word-next.ensures (rw (verdict_differ _ c.if-agree.false) at c.requires)
 
 pub returns : goal.returns
 unfolding ascii
 returns c =
-    let u = c in
-    let v = u in
-    let w = v in
-    let x = w in
-    rw (verdict_differ _ w.if-w-eq0.false) (puts_more v.put_word-next.ensures u.put_number.ensures
-    (rw (verdict_differ _ w.if-w-eq0.false) at x.requires))
+    rw (verdict_differ _ c.if-agree.false) (puts_more c.put_word-next.ensures c.put_number.ensures
+    (rw (verdict_differ _ c.if-agree.false) at c.requires))

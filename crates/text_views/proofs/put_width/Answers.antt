@@ -8,15 +8,10 @@ use Rattle.text_views.proofs.put_width.Goals.{After-put_moves-next}
 use Rattle.text_views.proofs.put_width.Goals as goal
 
 -- all up to the moves is put
-front-put : (c : After-put_moves-next) → let s = c in
-    Puts s.args.buf.now s.args.at (front s.args.w s.args.table.now s.args.moves.now s.args.lines.now s.args.runs.now s.requires) c.put_moves-next.new.buf c.put_moves-next.result
+front-put : (c : After-put_moves-next) → Puts c.args.buf.now c.args.at (front c.args.w c.args.table.now c.args.moves.now c.args.lines.now c.args.runs.now c.requires) c.put_moves-next.new.buf c.put_moves-next.result
 unfolding ascii
 front-put c =
-    let v = c in
-    let w = v in
-    let x = w in
-    let s = x in
-    front_puts _ _ _ _ _ s.requires x.put_word-next.ensures w.put_number-next.ensures v.put_table-next.ensures c.put_moves-next.ensures
+    front_puts _ _ _ _ _ c.requires c.put_word-next.ensures c.put_number-next.ensures c.put_table-next.ensures c.put_moves-next.ensures
 
 pub put_word-next-requires : goal.put_word-next-requires
 unfolding ascii
@@ -25,47 +20,29 @@ put_word-next-requires c = width_room_lem _ _ _ _ _ c.requires
 pub put_number-next-requires : goal.put_number-next-requires
 unfolding ascii
 put_number-next-requires c =
-    let u = c in
-    let s = u in
-    number_room _ _ _ _ _ s.requires u.put_word-next.ensures
+    number_room _ _ _ _ _ c.requires c.put_word-next.ensures
 
 pub put_table-next-requires : goal.put_table-next-requires
 unfolding ascii
 put_table-next-requires c =
-    let u = c in
-    let v = u in
-    let s = v in
-    table-room _ _ _ _ _ s.requires v.put_word-next.ensures u.put_number-next.ensures
+    table-room _ _ _ _ _ c.requires c.put_word-next.ensures c.put_number-next.ensures
 
 pub put_moves-next-requires : goal.put_moves-next-requires
 unfolding ascii
 put_moves-next-requires c =
-    let u = c in
-    let v = u in
-    let w = v in
-    let s = w in
-    moves-room _ _ _ _ _ s.requires w.put_word-next.ensures v.put_number-next.ensures u.put_table-next.ensures
+    moves-room _ _ _ _ _ c.requires c.put_word-next.ensures c.put_number-next.ensures c.put_table-next.ensures
 
 pub put_rows-next-requires : goal.put_rows-next-requires
 unfolding ascii
 put_rows-next-requires c =
-    let u = c in
-    let s = u in
-    rw c.line_size.ensures (line-some, lines-room _ _ _ _ _ s.requires (front-put (goal.at.put_rows-next-requires c).After-put_moves-next))
+    rw c.line_size.ensures (line-some, lines-room _ _ _ _ _ c.requires (front-put (goal.at.put_rows-next-requires c).After-put_moves-next))
 
 pub put_rows-requires : goal.put_rows-requires
 unfolding ascii
 put_rows-requires c =
-    let r = c in
-    let u = r in
-    let s = u in
-    rw c.run_size.ensures (run-some, runs-room _ _ _ _ _ s.requires (front-put (goal.at.put_rows-requires c).After-put_moves-next) (rw r.line_size.ensures at r.put_rows-next.ensures))
+    rw c.run_size.ensures (run-some, runs-room _ _ _ _ _ c.requires (front-put (goal.at.put_rows-requires c).After-put_moves-next) (rw c.line_size.ensures at c.put_rows-next.ensures))
 
 pub returns : goal.returns
 unfolding ascii
 returns c =
-    let q = c in
-    let r = q in
-    let u = r in
-    let s = u in
-    width_puts _ _ _ _ _ s.requires (front-put (goal.at.returns c).After-put_moves-next) (rw r.line_size.ensures at r.put_rows-next.ensures) (rw q.run_size.ensures at q.put_rows.ensures)
+    width_puts _ _ _ _ _ c.requires (front-put (goal.at.returns c).After-put_moves-next) (rw c.line_size.ensures at c.put_rows-next.ensures) (rw c.run_size.ensures at c.put_rows.ensures)

@@ -11,4 +11,4 @@ returns c =
     kept_of _ _ _ _ _ c.kept.ensures S.0.held.long _ _ refl S.0 S.1
 
 pub begin-requires : goal.begin-requires
-begin-requires c = (search rules, search rules, begin_asks.0, begin_asks.1, begin_asks.2)
+begin-requires c = (search rules, search rules, begin_asks, c.none-small.ensures)

@@ -1,7 +1,6 @@
 -- `Partition::step` meets its contract: nothing at width n, and else what a step of its rows leaves. Assumes nothing.
 use mathlib.Core.Path.{refl, sym}
 use native.Mathlib.Omega.{arith}
-use Rattle.step2_bits.proofs.None.{sound_none}
 use Rattle.steps.proofs.Phases.{held_passed}
 use Rattle.partition.specs.Stand.{groups, small_ones}
 use Rattle.partition.proofs.Steps.{step_still}
@@ -10,33 +9,23 @@ use Rattle.partition.proofs.Partition.step.Goals as goal
 
 pub returns-then-n-w : goal.returns-then-n-w
 returns-then-n-w c =
-    let s = c in
-    let p = s.args.self in
-    let e = step_still p.width (groups p) (small_ones p) (omega (arith, c.if-n-w.true, good-long p s.requires)) in
-    (s.requires, refl, sym e.0, sym e.1, sym e.2, sym e.3, λ h. refl)
+    let p = c.args.self in
+    let e = step_still p.width (groups p) (small_ones p) (omega (arith, c.if-n-w.true, good-long p c.requires)) in
+    (c.requires, refl, sym e.0, sym e.1, sym e.2, sym e.3, λ h. refl)
 
 pub pass-requires : goal.pass-requires
 pass-requires c =
-    let a = c in
-    let s = a in
-    let G = s.requires in
-    (rw a.rows_of-a.ensures G.held.long, rw a.rows_of-a.ensures G.waits, sound_none, G.wide, omega (arith, s.if-n-w.false, G.held.few))
+    let G = c.requires in
+    (rw c.rows_of-a.ensures G.held.long, rw c.rows_of-a.ensures G.waits, G.wide, omega (arith, c.if-n-w.false, G.held.few))
 
 pub advance-m-requires : goal.advance-m-requires
 advance-m-requires c =
-    let p = c in
-    let E = p.pass.ensures in
-    let a = p in
-    let G = a.requires in
-    (held_passed _ _ _ (rw a.rows_of-a.ensures G.held) _ E.0 E.1, E.2)
+    let E = c.pass.ensures in
+    (held_passed _ _ _ (rw c.rows_of-a.ensures c.requires.held) _ E.0 E.1, E.2)
 
 pub returns : goal.returns
 returns c =
-    let v = c in
-    let p = v in
-    let a = p in
-    let t = a in
-    let l = t.if-n-w.false in
-    let A = v.advance-m.ensures in
-    let S = stepped _ _ _ _ _ _ _ t.requires (omega (arith, l)) a.rows_of-a.ensures p.pass.ensures.1 A.0 A.1 c.kept-self.ensures in
+    let l = c.if-n-w.false in
+    let A = c.advance-m.ensures in
+    let S = stepped _ _ _ _ _ _ _ c.requires (omega (arith, l)) c.rows_of-a.ensures c.pass.ensures.1 A.0 A.1 c.kept-self.ensures in
     (S.0, S.1, S.2, S.3, S.4, S.5, λ h. absurd (omega (arith, h, l)))

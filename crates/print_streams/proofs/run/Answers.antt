@@ -1,6 +1,0 @@
--- `print_streams::run` meets its contract: what is still collected when the lines are through is written.
-use Rattle.text_streams.proofs.Programs.{ran}
-use Rattle.print_streams.proofs.run.Goals as goal
-
-pub returns : goal.returns
-returns c = ran (rw c.requires.2 at c.all-o.ensures.1) c.flush.ensures
