@@ -13,7 +13,7 @@ use words::{Entry, Refusal, Side, Taken};
 use words_claims::Verdict;
 use words_index::{ListIndexed, Looked};
 
-// An answer: its number, 0 for success and else the refusal's, and the values returned with it, 0 for each that it has not.
+// An answer, as C is handed it: its number, 0 for success and else the refusal's, and the values returned with it, 0 for each that it has not.
 #[repr(C)]
 #[derive(Clone, Copy, Debug, PartialEq, Eq)]
 pub struct Answer {
@@ -23,7 +23,7 @@ pub struct Answer {
     pub more: u64,
 }
 
-// The next entry of a log, if one was found, and the place after it.
+// The next entry of a log, if one was found, and the place after it, as C is handed them.
 #[repr(C)]
 #[derive(Clone, Copy, Debug, PartialEq, Eq)]
 pub struct Move {
@@ -34,7 +34,7 @@ pub struct Move {
     pub position: u16,
 }
 
-// What a lookup gives: 1 and the entry's place and its three numbers, or all 0.
+// What a lookup gives, as C is handed it: 1 and the entry's place and its three numbers, or all 0.
 #[repr(C)]
 #[derive(Clone, Copy, Debug, Default, PartialEq, Eq)]
 pub struct Found {

@@ -14,7 +14,7 @@ use read_edges::check_length;
 use words::Refusal;
 use words_claims::Verdict;
 
-// A part of a read: where it starts, counted from 0, and how many bytes it has.
+// A part of a read, as C is handed it: where it starts, counted from 0, and how many bytes it has.
 #[repr(C)]
 #[derive(Drop)]
 pub struct Part {
@@ -26,6 +26,7 @@ pub struct Part {
 fn is_outside(read: &[u8], start: u32, period: u32, copies: u32) -> bool
     ensures { result ≡ outside read.now start period copies }
 {
+    // returned early: what is added up below is above 0
     if start == 0 || period == 0 || copies == 0 {
         return true;
     }

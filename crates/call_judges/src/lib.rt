@@ -44,6 +44,7 @@ fn judge(seen: &mut [u16; 1000], log: &[u16], k: usize, n: u16, top: u16) -> boo
     requires { (k < rows move_size log.now) × (n ≤ 1000) × (top ≡ top_of n) × Seen n log.now k seen.old }
     ensures { (result ≡ good n log.now k) × (result ≡ true → Seen n log.now (k + 1) seen.new) }
 {
+    // returned early: what follows is of entries in range
     if !in_range(log, k, n, top) || !comes_after(log, k) {
         return false;
     }
@@ -56,7 +57,7 @@ fn judge(seen: &mut [u16; 1000], log: &[u16], k: usize, n: u16, top: u16) -> boo
     true
 }
 
-// the index of the first bad entry, or the number of whole entries if none is bad
+// the index of the first bad entry, or the number of whole entries if none is bad, as in the definition that refusal 5 is worded by
 pub fn first_bad(log: &[u16], n: u16) -> usize
     requires { n ≤ 1000 }
     ensures { result ≡ first_bad n log.now }

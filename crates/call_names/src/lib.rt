@@ -30,6 +30,7 @@ fn name_one(
     ensures { Renamed mark.now k i name.old lead.old name.new lead.new × (result ≡ not (joined mark.now (at lead.old k) i)) }
 {
     let f = load(lead, k);
+    // returned early: the two ways write other arrays
     if joins(mark, f, i) {
         store(name, i, f);
         return false;

@@ -26,7 +26,7 @@ fn in_place(list: &[u16], k: usize) -> bool
     k == 0 || ordered(list, k - 1, k)
 }
 
-// the first line out of place, or the number of whole lines if none is
+// the first line out of place, or the number of whole lines if none is, as in the definition that refusal 6 is worded by
 #[tactic(auto, using(crate::proofs::Judging::loose_here, crate::proofs::Judging::loose_none))]
 pub fn first_loose(list: &[u16]) -> usize
     ensures { result ≡ first_loose list.now }

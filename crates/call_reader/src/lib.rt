@@ -46,7 +46,7 @@ fn place_after(log: &[u16], at: usize) -> usize
     if at < end { at + 1 } else { at }
 }
 
-// one call, on the slice and the number
+// one call, on the slice and the number, which is what C holds of a reader
 pub fn take_at(log: &[u16], at: usize) -> Taken
     ensures { result ≡ reader_takes log.now at }
 {

@@ -17,7 +17,7 @@ use marker_seats::seat;
 use words::Refusal;
 use words_markers::{Scored, Shown};
 
-// A part of the house list where `house` is 1, of the read where it is 0: where it starts, counted from 0, and how many bytes it has.
+// A part, as C is handed it, of the house list where `house` is 1, of the read where it is 0: where it starts, counted from 0, and how many bytes it has.
 #[repr(C)]
 #[derive(Drop)]
 pub struct ShownPart {

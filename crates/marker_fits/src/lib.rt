@@ -24,6 +24,7 @@ fn fits_at(read: &[u8], motif: &[u8], i: usize, to: usize) -> bool
     let p = motif.len();
     let start = i as u32;
     let period = p as u32;
+    // returned early: copies are counted where a repeat starts
     if !same_bytes(&read[from..from + p], motif) || !is_leading(read, start, period) {
         return false;
     }

@@ -9,7 +9,7 @@ use lister::{group_table, list, log, replay};
 use run_prints::shown;
 use std::io;
 
-// `list` on so many sevens
+// `list` on so many sevens; the room stays a number, since with a const parameter no proof was found
 pub fn list_in(rt: &impl Print, read: &[u8], mode: u32, room: usize) -> io::Result<()>
     requires { room ≤ 14 }
 {
