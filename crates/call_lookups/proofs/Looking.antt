@@ -10,7 +10,6 @@ use Rattle.words.specs.Rows.{rows, cell}
 use Rattle.words.proofs.Searches.{Missed, first_hit, first_ended}
 use Rattle.words_index.specs.Index.{entry_size, first_entry}
 use Rattle.words_index.specs.Calls.{lookup_gives}
-use Rattle.words_index.proofs.EntryLayout.{entry_inside}
 
 module _ (s : List ℕ) (p k : ℕ) (m : Missed (λ h. eqb (cell entry_size s h 0) p) 0 k) where
   pub entry_here : k < rows entry_size s → cell entry_size s k 0 ≡ p → k ≡ first_entry s p
@@ -20,10 +19,6 @@ module _ (s : List ℕ) (p k : ℕ) (m : Missed (λ h. eqb (cell entry_size s h 
   pub entry_none : k ≤ rows entry_size s → rows entry_size s ≤ k → k ≡ first_entry s p
   unfolding first_entry
   entry_none a b = sym (first_ended (λ h. eqb (cell entry_size s h 0) p) (rows entry_size s) 0 k m (omega arith))
-
--- the numbers that are read stand in an entry
-pub cell_there : (j : ℕ) → j ≤ 3 → j < entry_size
-cell_there j h = omega (arith, h, entry_inside)
 
 module _ (s : List ℕ) (p k : ℕ) (e : k ≡ first_entry s p) where
   pub looked_entry : (f n c : ℕ) → k < rows entry_size s → f ≡ cell entry_size s k 1 → n ≡ cell entry_size s k 2 → c ≡ cell entry_size s k 3 → Some (record { place = k; first = f; lines = n; largest = c }) ≡ lookup_gives s p

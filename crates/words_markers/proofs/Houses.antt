@@ -1,27 +1,18 @@
 -- The lines of the house list: where each starts and ends, and which are there. Assumes nothing.
 use Prim.Native.Nat.{ℕ, zero, suc, ◌+◌, ◌-◌, ◌≤◌, ◌<◌}
 use mathlib.Core.Path.{◌≡◌, refl, ap, subst, ◌∙◌}
-use mathlib.Core.Logic.{◌≢◌}
 use mathlib.Core.Bool.{true, false}
 use mathlib.Core.List.{List}
 use native.Mathlib.Omega.{arith}
-use lib.ListN.{length, get_or, take, drop, length-take, length-drop}
-use borrow.Author.Tests.{eq-eqb, ne_eqb, le-leb, lt-leb, leb-true}
+use lib.ListN.{length, take, drop, length-take, length-drop}
+use borrow.Author.Tests.{le-leb, lt-leb, leb-true}
 use Rattle.words.specs.Reads.{same}
 use Rattle.words.proofs.Tests.{and_left, and_right}
 use Rattle.words.proofs.Ranges.{found, Found}
 use Rattle.words.proofs.Stretches.{same_is}
-use Rattle.words_markers.specs.Houses.{newline, breaks, line_end, line_start, has_line, house_line, house_has}
+use Rattle.words_markers.specs.Houses.{breaks, line_end, line_start, has_line, house_line, house_has}
 
 module _ (h : List ℕ) where
-  pub breaks_yes : (j : ℕ) → get_or h j 0 ≡ newline → breaks h j ≡ true
-  unfolding breaks
-  breaks_yes j e = eq-eqb (get_or h j 0) newline e
-
-  pub breaks_no : (j : ℕ) → get_or h j 0 ≢ newline → breaks h j ≡ false
-  unfolding breaks
-  breaks_no j ne = ne_eqb (get_or h j 0) newline ne
-
   end_found : (a : ℕ) → Found (breaks h) (length h - a) a (line_end h a)
   unfolding line_end
   end_found a = found (breaks h) (length h - a) a

@@ -15,7 +15,6 @@ use Rattle.words_primers.proofs.Places.{sits_means, places_exactly}
 use Rattle.words_markers.specs.Sites.{none, several, only, seat, behind, seated, seats}
 use Rattle.words.specs.declared.Refusal.{Refusal}
 use Rattle.words.specs.declared.Side.{Side}
-use Rattle.words_markers.specs.declared.Seats.{Seats}
 
 module _ (l : List ℕ) where
   pub none_yes : length l ≡ 0 → none l ≡ true

@@ -2,7 +2,7 @@
 -- is, and none is left over. Assumes nothing.
 use Prim.Native.Nat.{ℕ, suc, ◌+◌, ◌-◌, ◌*◌, ◌≤◌, ◌<◌}
 use mathlib.Core.Path.{◌≡◌, ap, ◌∙◌}
-use mathlib.Core.Logic.{◌⊎◌, ⊎_elim, ◌↔◌}
+use mathlib.Core.Logic.{⊎_elim, ◌↔◌}
 use mathlib.Core.List.{List}
 use native.Mathlib.Omega.{arith}
 use native.Mathlib.Nat.{mul-le-mul_right}
@@ -16,7 +16,6 @@ use Rattle.words.proofs.Passing.{Rising}
 use Rattle.words_markers.specs.Fits.{fittings}
 use Rattle.words_markers.specs.Sites.{only, seats, only_one, site_in, site}
 use Rattle.words.specs.declared.Refusal.{Refusal}
-use Rattle.words.specs.declared.Side.{Side}
 use Rattle.words_markers.specs.declared.Seats.{Seats}
 use Rattle.words_markers.proofs.Counts.{none_is, is_none, one_is, is_one, more_is, is_more}
 use Rattle.words_markers.proofs.Seated.{Between, Unseated, SeatsSay, between-inside, seats_so, seats_exactly}

@@ -6,7 +6,6 @@ use Rattle.words.specs.Answers.{Answer, success, refused_says}
 use Rattle.words_markers.specs.Houses.{line_start, house_has}
 use Rattle.words_markers.specs.Sites.{site}
 use Rattle.words.specs.declared.Refusal.{Refusal}
-use Rattle.words.specs.declared.Side.{Side}
 use Rattle.words_markers.specs.declared.Scored.{Scored}
 use Rattle.words_markers.specs.declared.Shown.{Shown}
 
