@@ -2,10 +2,10 @@
 // alone, and its code is apart from the lister's, but for the layout of a row. `crates/words_agree` has what agreeing means.
 #![tactic(auto)]
 
-ghost use Rattle.std.specs.Prelude.{◌≡◌, ◌^◌, ◌≤◌, ◌<◌, length, IfSome};
+ghost use Rattle.std.specs.Prelude.{◌≡◌, ◌^◌, ◌≤◌, ◌<◌, length};
 ghost use Rattle.words_agree.specs.Agree.{whole_periods};
 ghost use Rattle.words_agree.specs.Lists.{lines_by, agree};
-ghost use Rattle.row_matches.specs.Matching.{Passes};
+ghost use Rattle.row_matches.specs.Matching.{reached, Passes};
 
 use row_matches::{begin, ended, pass_line};
 use row_runs::{end_of, period_of, room, start_of};
@@ -23,8 +23,14 @@ fn whole_periods(p: usize, i: usize, b: usize) -> usize
 }
 
 // the lines by the run from a to b: once fewer than two periods are left, there is no more
-fn agree_run(list: &[u16], from: Option<usize>, a: usize, b: usize, p: usize) -> Option<usize>
-    requires { IfSome from (λ at. at ≤ length list.now) × (b < 2 ^ 16) }
+fn agree_run(
+    list: &[u16],
+    from: Result<usize, usize>,
+    a: usize,
+    b: usize,
+    p: usize,
+) -> Result<usize, usize>
+    requires { (reached from ≤ length list.now) × (b < 2 ^ 16) }
     ensures { Passes (lines_by a b p) list.now from result }
 {
     let mut m = from;

@@ -2,10 +2,10 @@
 // the rows of one width in a log, a list or the runs. Each public function promises what its definition in specs/ says, for every slice.
 #![tactic(auto)]
 
-ghost use Rattle.std.specs.Prelude.{◌≡◌, ◌+◌, ◌≤◌, ◌<◌, length, IfSome};
+ghost use Rattle.std.specs.Prelude.{◌≡◌, ◌+◌, ◌≤◌, ◌<◌, length};
 ghost use Rattle.words.specs.Rows.{rows};
 ghost use Rattle.words.specs.Groups.{gap as distance};
-ghost use Rattle.row_matches.specs.Matching.{Passes};
+ghost use Rattle.row_matches.specs.Matching.{reached, Passes};
 ghost use Rattle.bench_agrees.specs.Parts.{part_end, part_from};
 ghost use Rattle.bench_agrees.specs.Agreement.{copies_in, line_in, agrees_at};
 
@@ -64,8 +64,14 @@ fn copies(links: &Links, p: usize, i: usize) -> usize
 }
 
 // one position more: its line, if it is a start
-fn agree_one(links: &Links, p: usize, i: usize, lines: &[u16], m: Option<usize>) -> Option<usize>
-    requires { (1 ≤ i) × (i ≤ length links.now.table.now) × IfSome m (λ at. at ≤ length lines.now) }
+fn agree_one(
+    links: &Links,
+    p: usize,
+    i: usize,
+    lines: &[u16],
+    m: Result<usize, usize>,
+) -> Result<usize, usize>
+    requires { (1 ≤ i) × (i ≤ length links.now.table.now) × (reached m ≤ length lines.now) }
     ensures { Passes (line_in links.now.table.now p i) lines.now m result }
 {
     let d = gap(links, i);

@@ -15,6 +15,10 @@ fn main(rt: HostRuntime) {
     let mut input = [0u8; 65536];
     let mut line = [0u8; 1001];
     let mut buf = [0u8; 262144];
-    let pipes = Pipes::new(&rt);
+    let pipes = Pipes {
+        input: rt.stdin(),
+        output: rt.stdout(),
+        errors: rt.stderr(),
+    };
     run(pipes, &mut input, &mut line, &mut buf);
 }

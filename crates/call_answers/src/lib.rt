@@ -3,13 +3,13 @@
 #![tactic(auto)]
 
 ghost use Rattle.std.specs.Prelude.{◌≡◌};
-ghost use Rattle.words.specs.Answers.{counted_says, refused_says, side_number};
+ghost use Rattle.words.specs.Answers.{counted_says, refused_says};
 ghost use Rattle.words.specs.Answers.{success as says_success, both as says_both, refusal as says_refusal};
 ghost use Rattle.words_index.specs.Calls.{list_indexed_says};
 ghost use Rattle.words_claims.specs.Calls.{claimed_says};
 ghost use Rattle.call_answers.specs.Plain.{plain, plain_move, plain_looked};
 
-use words::{Entry, Refusal, Side, Taken};
+use words::{Entry, Refusal, Taken};
 use words_claims::Verdict;
 use words_index::{ListIndexed, Looked};
 
@@ -81,17 +81,6 @@ pub fn refusal(number: u32, value: usize) -> Answer
     }
 }
 
-// the number of a primer
-#[tactic(auto, unfolding(words::specs::Answers::side_number))]
-fn side_number(side: Side) -> usize
-    ensures { result ≡ side_number side }
-{
-    match side {
-        Side::Left => 1,
-        Side::Right => 2,
-    }
-}
-
 // why a call says no
 #[tactic(auto, unfolding(words::specs::Answers::refused_says))]
 pub fn refused(why: Refusal) -> Answer
@@ -107,8 +96,8 @@ pub fn refused(why: Refusal) -> Answer
         Refusal::IndexFull(count) => refusal(7, count),
         Refusal::BadLength(letters) => refusal(8, letters),
         Refusal::Foreign(index) => refusal(9, index),
-        Refusal::Missing(side) => refusal(10, side_number(side)),
-        Refusal::MoreThanOnce(side) => refusal(11, side_number(side)),
+        Refusal::Missing(primer) => refusal(10, primer as usize),
+        Refusal::MoreThanOnce(primer) => refusal(11, primer as usize),
         Refusal::OutOfOrder => refusal(12, 0),
         Refusal::NoRepeat => refusal(13, 0),
         Refusal::Several => refusal(14, 0),

@@ -17,6 +17,7 @@ fn in_twos(signed: i32) -> u64
 }
 
 // what `score` answers
+#[tactic(auto, using(crate::proofs::Refused::refused_plain))]
 pub fn scored(a: Result<Scored, Refusal>) -> Answer
     ensures { result ≡ plain_score (scored_says a) }
 {

@@ -11,7 +11,7 @@ use primer_judges::{first_foreign, good_length};
 use primer_scans::scan;
 use read_edges::check_length;
 use slots::wide;
-use words::{Refusal, Side};
+use words::Refusal;
 use words_markers::Seats;
 
 // the positions between two primers that were judged, after 10, 11 and 12. Room for one place tells the only one, and the count tells the rest
@@ -24,16 +24,16 @@ fn seat_both(read: &[u8], left: &[u8], right: &[u8]) -> Result<Seats, Refusal>
     let lefts = scan(&mut first[..], read, left);
     let rights = scan(&mut second[..], read, right);
     if lefts == 0 {
-        return Err(Refusal::Missing(Side::Left));
+        return Err(Refusal::Missing(1));
     }
     if rights == 0 {
-        return Err(Refusal::Missing(Side::Right));
+        return Err(Refusal::Missing(2));
     }
     if 1 < lefts {
-        return Err(Refusal::MoreThanOnce(Side::Left));
+        return Err(Refusal::MoreThanOnce(1));
     }
     if 1 < rights {
-        return Err(Refusal::MoreThanOnce(Side::Right));
+        return Err(Refusal::MoreThanOnce(2));
     }
     let from = wide(first[0]) + left.len();
     let to = wide(second[0]);

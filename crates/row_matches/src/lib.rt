@@ -2,41 +2,47 @@
 // over. The lines may come from anywhere: the bench makes them from groups and from runs.
 #![tactic(auto)]
 
-ghost use Rattle.std.specs.Prelude.{◌≡◌, ◌≤◌, length, IfSome};
+ghost use Rattle.std.specs.Prelude.{◌≡◌, ◌≤◌, length};
 ghost use Rattle.words.specs.Lists.{line_of};
-ghost use Rattle.row_matches.specs.Matching.{nothing, passed, at_end};
+ghost use Rattle.row_matches.specs.Matching.{reached, nothing, passed, at_end};
 
 use row_lines::{is_line, line_size};
 
-// before the first line: how many numbers of the list are passed, and none once they differ
-pub fn begin() -> Option<usize>
+// before the first line: `Ok` while they agree, `Err` once they differed, and how many numbers of the list are passed either way
+pub fn begin() -> Result<usize, usize>
     ensures { result ≡ nothing }
 {
-    Some(0)
+    Ok(0)
 }
 
 // one line more
 pub fn pass_line(
     list: &[u16],
-    m: Option<usize>,
+    m: Result<usize, usize>,
     start: usize,
     period: usize,
     copies: usize,
-) -> Option<usize>
-    requires { IfSome m (λ at. at ≤ length list.now) }
+) -> Result<usize, usize>
+    requires { reached m ≤ length list.now }
     ensures { result ≡ passed (line_of start period copies) list.now m }
 {
-    let at = m?;
-    if is_line(list, at, start, period, copies) {
-        Some(at + line_size())
-    } else {
-        None
+    let at = match m {
+        Ok(at) => at,
+        Err(at) => at,
+    };
+    if !is_line(list, at, start, period, copies) {
+        return Err(at);
+    }
+    let next = at + line_size();
+    match m {
+        Ok(_) => Ok(next),
+        Err(_) => Err(next),
     }
 }
 
 // after the last line: do they agree, and is the list at its end?
-pub fn ended(list: &[u16], m: Option<usize>) -> bool
+pub fn ended(list: &[u16], m: Result<usize, usize>) -> bool
     ensures { result ≡ at_end list.now m }
 {
-    m == Some(list.len())
+    m == Ok(list.len())
 }

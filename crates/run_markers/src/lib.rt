@@ -5,20 +5,12 @@
 use marker_answers::scored;
 use marker_calls::{score, shown, shown_part};
 use run_prints::{answer_both, slice};
-use std::io;
 
 // a read with a repeat from behind its left primer, GTT, up to its right one, TGG
 const READ: &[u8] = b"GTTACACACTGG";
 
-fn score_on(
-    rt: &impl Print,
-    read: &[u8],
-    left: &[u8],
-    right: &[u8],
-    motif: &[u8],
-    reference: u8,
-) -> io::Result<()> {
-    println!(rt; "score")?;
+fn score_on(rt: &impl Print, read: &[u8], left: &[u8], right: &[u8], motif: &[u8], reference: u8) {
+    let _ = println!(rt; "score");
     answer_both(rt, scored(score(read, left, right, motif, reference)))
 }
 
@@ -31,23 +23,22 @@ fn shown_on(
     left: &[u8],
     right: &[u8],
     motif: &[u8],
-) -> io::Result<()> {
-    println!(rt; "shown")?;
+) {
+    let _ = println!(rt; "shown");
     let p = shown_part(read, house, marker, left, right, motif);
-    println!(rt; "part {} {} {}", p.house, p.from, p.count)?;
+    let _ = println!(rt; "part {} {} {}", p.house, p.from, p.count);
     slice(rt, shown(read, house, marker, left, right, motif))
 }
 
 // motifs of that read, each with its reference
-fn motifs_in(rt: &impl Print, motifs: &[(&[u8], u8)]) -> io::Result<()> {
+fn motifs_in(rt: &impl Print, motifs: &[(&[u8], u8)]) {
     for &(motif, reference) in motifs {
-        score_on(rt, READ, b"GTT", b"TGG", motif, reference)?;
+        score_on(rt, READ, b"GTT", b"TGG", motif, reference);
     }
-    Ok(())
 }
 
 // the reference is the copies, one less, one more, none, the largest byte; the motif of the next start
-fn references(rt: &impl Print) -> io::Result<()> {
+fn references(rt: &impl Print) {
     motifs_in(
         rt,
         &[
@@ -62,7 +53,7 @@ fn references(rt: &impl Print) -> io::Result<()> {
 }
 
 // no repeat has the motif: none, not primitive, one copy, inside a primer, a small letter, an N, longer than half the read, as long, longer
-fn motifs(rt: &impl Print) -> io::Result<()> {
+fn motifs(rt: &impl Print) {
     motifs_in(
         rt,
         &[
@@ -83,15 +74,14 @@ fn motifs(rt: &impl Print) -> io::Result<()> {
 }
 
 // pairs of primers of that read, left and right
-fn primers_in(rt: &impl Print, motif: &[u8], primers: &[(&[u8], &[u8])]) -> io::Result<()> {
+fn primers_in(rt: &impl Print, motif: &[u8], primers: &[(&[u8], &[u8])]) {
     for &(left, right) in primers {
-        score_on(rt, READ, left, right, motif, 3)?;
+        score_on(rt, READ, left, right, motif, 3);
     }
-    Ok(())
 }
 
 // a base free on either side; one byte inside the left primer, the right one, both
-fn reaches(rt: &impl Print) -> io::Result<()> {
+fn reaches(rt: &impl Print) {
     primers_in(
         rt,
         b"AC",
@@ -101,7 +91,7 @@ fn reaches(rt: &impl Print) -> io::Result<()> {
             (b"GTT", b"CTGG"),
             (b"GTTA", b"CTGG"),
         ],
-    )?;
+    );
     primers_in(
         rt,
         b"CA",
@@ -110,26 +100,25 @@ fn reaches(rt: &impl Print) -> io::Result<()> {
 }
 
 // reads between those primers, each with a motif
-fn reads_in(rt: &impl Print, reads: &[(&[u8], &[u8])]) -> io::Result<()> {
+fn reads_in(rt: &impl Print, reads: &[(&[u8], &[u8])]) {
     for &(read, motif) in reads {
-        score_on(rt, read, b"GTT", b"TGG", motif, 3)?;
+        score_on(rt, read, b"GTT", b"TGG", motif, 3);
     }
-    Ok(())
 }
 
 // leading in the whole read: a chain that starts in the left primer has no start between; a chain has one leading start of its motif
-fn leading(rt: &impl Print) -> io::Result<()> {
+fn leading(rt: &impl Print) {
     for motif in [b"CA", b"AC"] {
-        score_on(rt, b"GGACACACTT", b"GA", b"CT", motif, 3)?;
+        score_on(rt, b"GGACACACTT", b"GA", b"CT", motif, 3);
     }
     for motif in [b"AC", b"CA"] {
-        score_on(rt, b"GGACACACACTT", b"GA", b"TT", motif, 3)?;
+        score_on(rt, b"GGACACACACTT", b"GA", b"TT", motif, 3);
     }
     reads_in(rt, &[(b"GTTACACACACTGG", b"AC"), (b"GTTAAAATGG", b"A")])
 }
 
 // two repeats with the motif, one of them inside a primer, both; three, and the longer motif that they make; others before the left primer and behind the right one
-fn several(rt: &impl Print) -> io::Result<()> {
+fn several(rt: &impl Print) {
     let pairs: [(&[u8], &[u8]); 4] = [
         (b"GTT", b"TGG"),
         (b"GTTA", b"TGG"),
@@ -137,7 +126,7 @@ fn several(rt: &impl Print) -> io::Result<()> {
         (b"GTTA", b"CTGG"),
     ];
     for (left, right) in pairs {
-        score_on(rt, b"GTTACACGACACTGG", left, right, b"AC", 3)?;
+        score_on(rt, b"GTTACACGACACTGG", left, right, b"AC", 3);
     }
     reads_in(
         rt,
@@ -146,12 +135,12 @@ fn several(rt: &impl Print) -> io::Result<()> {
             (b"GTTACACGACACGACACTGG", b"AC"),
             (b"GTTACACGACACGACACTGG", b"ACACG"),
         ],
-    )?;
+    );
     score_on(rt, b"ACACGACACTACAC", b"G", b"T", b"AC", 3)
 }
 
 // an N ends a repeat and stands in none, n and R are letters like any other there; in a primer an N lets in each letter, in a read it sits under N alone
-fn unread(rt: &impl Print) -> io::Result<()> {
+fn unread(rt: &impl Print) {
     reads_in(
         rt,
         &[
@@ -163,12 +152,12 @@ fn unread(rt: &impl Print) -> io::Result<()> {
             (b"GTTARARARTGG", b"AR"),
             (b"GTNACACACTGG", b"AC"),
         ],
-    )?;
+    );
     score_on(rt, b"GTNACACACTGG", b"GTN", b"TGG", b"AC", 3)
 }
 
 // primers with letters of more than one base
-fn ambiguous(rt: &impl Print) -> io::Result<()> {
+fn ambiguous(rt: &impl Print) {
     primers_in(
         rt,
         b"AC",
@@ -182,7 +171,7 @@ fn ambiguous(rt: &impl Print) -> io::Result<()> {
 }
 
 // 60 letters and 61, all of the code or with a U: refusal 8 of the left primer, then of the right one, before 9; so 9, before 10
-fn long_primers(rt: &impl Print) -> io::Result<()> {
+fn long_primers(rt: &impl Print) {
     let primer = [b'A'; 60];
     let longer = [b'A'; 61];
     let mut foreign = [b'A'; 60];
@@ -209,7 +198,7 @@ fn long_primers(rt: &impl Print) -> io::Result<()> {
 }
 
 // refusal 10 of the left primer, then of the right one, before 11; so 11, before 12
-fn seats(rt: &impl Print) -> io::Result<()> {
+fn seats(rt: &impl Print) {
     primers_in(
         rt,
         b"AC",
@@ -229,14 +218,14 @@ fn seats(rt: &impl Print) -> io::Result<()> {
 }
 
 // places that overlap are more than one; an empty read has none
-fn short_reads(rt: &impl Print) -> io::Result<()> {
-    score_on(rt, b"GAAAT", b"AA", b"T", b"A", 0)?;
-    score_on(rt, b"", b"A", b"T", b"A", 0)?;
+fn short_reads(rt: &impl Print) {
+    score_on(rt, b"GAAAT", b"AA", b"T", b"A", 0);
+    score_on(rt, b"", b"A", b"T", b"A", 0);
     score_on(rt, b"", b"", b"T", b"", 0)
 }
 
 // refusal 12: the same primer, the right one first, one inside the other, over one letter; side by side there is no repeat between
-fn orders(rt: &impl Print) -> io::Result<()> {
+fn orders(rt: &impl Print) {
     primers_in(
         rt,
         b"AC",
@@ -255,24 +244,24 @@ fn orders(rt: &impl Print) -> io::Result<()> {
 }
 
 // 1,000 bytes pass: as one letter
-fn one_letter(rt: &impl Print) -> io::Result<()> {
+fn one_letter(rt: &impl Print) {
     let read = [b'A'; 1000];
-    score_on(rt, &read, b"A", b"C", b"A", 0)?;
+    score_on(rt, &read, b"A", b"C", b"A", 0);
     score_on(rt, &read, b"A", b"A", b"A", 0)
 }
 
 // as the most copies there can be
-fn most_copies(rt: &impl Print) -> io::Result<()> {
+fn most_copies(rt: &impl Print) {
     let mut read = [b'A'; 1000];
     read[0] = b'G';
     read[999] = b'T';
-    score_on(rt, &read, b"G", b"T", b"A", 255)?;
-    shown_on(rt, &read, b"C\nA", 1, b"G", b"T", b"A")?;
+    score_on(rt, &read, b"G", b"T", b"A", 255);
+    shown_on(rt, &read, b"C\nA", 1, b"G", b"T", b"A");
     shown_on(rt, &read, b"C\nA", 0, b"G", b"T", b"A")
 }
 
 // as the longest motif there can be, and without its last byte
-fn longest_motif(rt: &impl Print) -> io::Result<()> {
+fn longest_motif(rt: &impl Print) {
     let mut read = [b'A'; 1000];
     read[0] = b'G';
     read[499] = b'C';
@@ -280,28 +269,27 @@ fn longest_motif(rt: &impl Print) -> io::Result<()> {
     read[999] = b'T';
     let mut motif = [b'A'; 499];
     motif[498] = b'C';
-    score_on(rt, &read, b"G", b"T", &motif, 0)?;
+    score_on(rt, &read, b"G", b"T", &motif, 0);
     score_on(rt, &read, b"G", b"T", &motif[..498], 0)
 }
 
 // 1,001 are refused before anything else
-fn over(rt: &impl Print) -> io::Result<()> {
+fn over(rt: &impl Print) {
     let read = [b'A'; 1001];
-    score_on(rt, &read, b"C", b"A", b"A", 0)?;
-    score_on(rt, &read, b"U", b"", b"", 255)?;
+    score_on(rt, &read, b"C", b"A", b"A", 0);
+    score_on(rt, &read, b"U", b"", b"", 255);
     shown_on(rt, &read, b"A", 0, b"C", b"A", b"A")
 }
 
 // house lists, each with the number of a marker, whose motif is AC
-fn houses_in(rt: &impl Print, houses: &[(&[u8], u32)]) -> io::Result<()> {
+fn houses_in(rt: &impl Print, houses: &[(&[u8], u32)]) {
     for &(house, marker) in houses {
-        shown_on(rt, READ, house, marker, b"GTT", b"TGG", b"AC")?;
+        shown_on(rt, READ, house, marker, b"GTT", b"TGG", b"AC");
     }
-    Ok(())
 }
 
 // the house list has the marker: in its first line, in its last one with a newline behind it and without, in the middle, behind empty ones, in two lines
-fn lines(rt: &impl Print) -> io::Result<()> {
+fn lines(rt: &impl Print) {
     houses_in(
         rt,
         &[
@@ -320,7 +308,7 @@ fn lines(rt: &impl Print) -> io::Result<()> {
 }
 
 // it has not: the line of another number, an empty one, one past the last, no text
-fn numbers(rt: &impl Print) -> io::Result<()> {
+fn numbers(rt: &impl Print) {
     houses_in(
         rt,
         &[
@@ -341,7 +329,7 @@ fn numbers(rt: &impl Print) -> io::Result<()> {
 }
 
 // a line that is longer, shorter, cut in two, another, or has the motif inside; a carriage return is part of its line
-fn others(rt: &impl Print) -> io::Result<()> {
+fn others(rt: &impl Print) {
     houses_in(
         rt,
         &[
@@ -361,27 +349,21 @@ fn others(rt: &impl Print) -> io::Result<()> {
 }
 
 // the motif of a read between those primers
-fn motif_shown(
-    rt: &impl Print,
-    read: &[u8],
-    house: &[u8],
-    marker: u32,
-    motif: &[u8],
-) -> io::Result<()> {
+fn motif_shown(rt: &impl Print, read: &[u8], house: &[u8], marker: u32, motif: &[u8]) {
     shown_on(rt, read, house, marker, b"GTT", b"TGG", motif)
 }
 
 // a motif with a newline is no line; the motif of another start
-fn shown_motifs(rt: &impl Print) -> io::Result<()> {
-    motif_shown(rt, b"GTTA\nA\nA\nTGG", b"A\nA\n", 0, b"A\n")?;
-    motif_shown(rt, b"GTT\n\n\nTGG", b"\n\n", 0, b"\n")?;
-    motif_shown(rt, b"GTT\n\n\nTGG", b"\n\n", 1, b"\n")?;
-    motif_shown(rt, READ, b"AC\nCA", 1, b"CA")?;
+fn shown_motifs(rt: &impl Print) {
+    motif_shown(rt, b"GTTA\nA\nA\nTGG", b"A\nA\n", 0, b"A\n");
+    motif_shown(rt, b"GTT\n\n\nTGG", b"\n\n", 0, b"\n");
+    motif_shown(rt, b"GTT\n\n\nTGG", b"\n\n", 1, b"\n");
+    motif_shown(rt, READ, b"AC\nCA", 1, b"CA");
     motif_shown(rt, READ, b"AC\nCA", 0, b"CA")
 }
 
 // of a read not scored nothing is shown, though the house list has the line
-fn unscored(rt: &impl Print) -> io::Result<()> {
+fn unscored(rt: &impl Print) {
     let pairs: [(&[u8], &[u8]); 5] = [
         (b"", b"TGG"),
         (b"GTT", b"TGu"),
@@ -390,42 +372,42 @@ fn unscored(rt: &impl Print) -> io::Result<()> {
         (b"TGG", b"GTT"),
     ];
     for (left, right) in pairs {
-        shown_on(rt, READ, b"AC", 0, left, right, b"AC")?;
+        shown_on(rt, READ, b"AC", 0, left, right, b"AC");
     }
-    motif_shown(rt, READ, b"ACAC", 0, b"ACAC")?;
-    motif_shown(rt, READ, b"", 0, b"")?;
-    motif_shown(rt, b"GTTACACGACACTGG", b"AC", 0, b"AC")?;
+    motif_shown(rt, READ, b"ACAC", 0, b"ACAC");
+    motif_shown(rt, READ, b"", 0, b"");
+    motif_shown(rt, b"GTTACACGACACTGG", b"AC", 0, b"AC");
     shown_on(rt, b"", b"A", 0, b"A", b"A", b"A")
 }
 
 // a house list longer than any read: so many empty lines, and the motif
-fn long_house(rt: &impl Print) -> io::Result<()> {
+fn long_house(rt: &impl Print) {
     let mut house = [b'\n'; 2000];
     house[1998] = b'A';
     house[1999] = b'C';
     houses_in(rt, &[(&house, 1998), (&house, 1997), (&house, 1999)])
 }
 
-pub fn run(rt: &impl Print) -> io::Result<()> {
-    references(rt)?;
-    motifs(rt)?;
-    reaches(rt)?;
-    leading(rt)?;
-    several(rt)?;
-    unread(rt)?;
-    ambiguous(rt)?;
-    long_primers(rt)?;
-    seats(rt)?;
-    short_reads(rt)?;
-    orders(rt)?;
-    one_letter(rt)?;
-    most_copies(rt)?;
-    longest_motif(rt)?;
-    over(rt)?;
-    lines(rt)?;
-    numbers(rt)?;
-    others(rt)?;
-    shown_motifs(rt)?;
-    unscored(rt)?;
+pub fn run(rt: &impl Print) {
+    references(rt);
+    motifs(rt);
+    reaches(rt);
+    leading(rt);
+    several(rt);
+    unread(rt);
+    ambiguous(rt);
+    long_primers(rt);
+    seats(rt);
+    short_reads(rt);
+    orders(rt);
+    one_letter(rt);
+    most_copies(rt);
+    longest_motif(rt);
+    over(rt);
+    lines(rt);
+    numbers(rt);
+    others(rt);
+    shown_motifs(rt);
+    unscored(rt);
     long_house(rt)
 }

@@ -7,10 +7,9 @@ ghost use Rattle.std.specs.Prelude.{◌≤◌};
 use call_answers::counted;
 use call_runs::runs;
 use run_prints::shown;
-use std::io;
 
 // on so many sevens
-fn runs_in(rt: &impl Print, read: &[u8], room: usize) -> io::Result<()>
+fn runs_in(rt: &impl Print, read: &[u8], room: usize)
     requires { room ≤ 18 }
 {
     let out = &mut [7; 18][..room];
@@ -18,7 +17,7 @@ fn runs_in(rt: &impl Print, read: &[u8], room: usize) -> io::Result<()>
 }
 
 // one run, and a list cut short; two runs of one period that overlap
-fn short(rt: &impl Print) -> io::Result<()> {
+fn short(rt: &impl Print) {
     let calls: [(&[u8], usize); 9] = [
         (b"ACACACA", 4),
         (b"ACACACA", 3),
@@ -31,22 +30,21 @@ fn short(rt: &impl Print) -> io::Result<()> {
         (b"", 2),
     ];
     for (read, room) in calls {
-        runs_in(rt, read, room)?;
+        runs_in(rt, read, room);
     }
-    Ok(())
 }
 
 // 1,000 bytes pass; 1,001 give refusal 1 and leave the slice, where there is room and, before refusal 3, where there is none
-fn limits(rt: &impl Print) -> io::Result<()> {
+fn limits(rt: &impl Print) {
     let within = [b'A'; 1000];
-    runs_in(rt, &within, 3)?;
-    runs_in(rt, &within, 2)?;
+    runs_in(rt, &within, 3);
+    runs_in(rt, &within, 2);
     let over = [b'A'; 1001];
-    runs_in(rt, &over, 4)?;
+    runs_in(rt, &over, 4);
     runs_in(rt, &over, 2)
 }
 
-pub fn run(rt: &impl Print) -> io::Result<()> {
-    short(rt)?;
+pub fn run(rt: &impl Print) {
+    short(rt);
     limits(rt)
 }

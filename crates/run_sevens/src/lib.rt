@@ -7,10 +7,9 @@ ghost use Rattle.std.specs.Prelude.{◌≤◌};
 use call_answers::counted;
 use lister::{group_table, list, log, replay};
 use run_prints::shown;
-use std::io;
 
 // `list` on so many sevens; the room stays a number, since with a const parameter no proof was found
-pub fn list_in(rt: &impl Print, read: &[u8], mode: u32, room: usize) -> io::Result<()>
+pub fn list_in(rt: &impl Print, read: &[u8], mode: u32, room: usize)
     requires { room ≤ 14 }
 {
     let out = &mut [7; 14][..room];
@@ -18,7 +17,7 @@ pub fn list_in(rt: &impl Print, read: &[u8], mode: u32, room: usize) -> io::Resu
 }
 
 // `group_table`
-pub fn table_in(rt: &impl Print, read: &[u8], width: u32, room: usize) -> io::Result<()>
+pub fn table_in(rt: &impl Print, read: &[u8], width: u32, room: usize)
     requires { room ≤ 257 }
 {
     let out = &mut [7; 257][..room];
@@ -31,7 +30,7 @@ pub fn table_in(rt: &impl Print, read: &[u8], width: u32, room: usize) -> io::Re
 }
 
 // `log`
-pub fn log_in(rt: &impl Print, read: &[u8], room: usize) -> io::Result<()>
+pub fn log_in(rt: &impl Print, read: &[u8], room: usize)
     requires { room ≤ 6885 }
 {
     let out = &mut [7; 6885][..room];
@@ -39,13 +38,7 @@ pub fn log_in(rt: &impl Print, read: &[u8], room: usize) -> io::Result<()>
 }
 
 // `replay`
-pub fn replay_in(
-    rt: &impl Print,
-    read: &[u8],
-    log: &[u16],
-    width: u32,
-    room: usize,
-) -> io::Result<()>
+pub fn replay_in(rt: &impl Print, read: &[u8], log: &[u16], width: u32, room: usize)
     requires { room ≤ 9 }
 {
     let out = &mut [7; 9][..room];

@@ -29,17 +29,6 @@ pub struct Pipes {
     pub errors: Stderr,
 }
 
-impl Pipes {
-    // of what `main` is given, the leave that these calls need; each handle has one value, so there is nothing to promise
-    pub fn new(rt: &HostRuntime) -> Pipes {
-        Pipes {
-            input: rt.stdin(),
-            output: rt.stdout(),
-            errors: rt.stderr(),
-        }
-    }
-}
-
 // whether a call that answered so is to be made again: a signal came in between, or it would have had to wait
 fn again(answer: &Result<usize, Error>) -> bool {
     match answer {

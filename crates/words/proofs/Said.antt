@@ -6,15 +6,11 @@ use lib.ListN.{get_or}
 use lib.Dec.{eqb}
 use Rattle.std.specs.Prelude.{Result, Ok, Err}
 use Rattle.std.specs.Result.{IsErrAnd}
-use Rattle.words.specs.Answers.{Answer, success, refusal, side_number, refused_says, says, counted_says}
-use Rattle.words.specs.declared.Side.{Side}
+use Rattle.words.specs.Answers.{Answer, success, refusal, refused_says, says, counted_says}
 use Rattle.words.specs.declared.Refusal.{Refusal}
 use Rattle.words.proofs.Tests.{clash}
 
 -- a refusal read back
-side_of : ℕ → Side
-side_of v = cond (eqb v 1) Side.Left Side.Right
-
 refusal_of : ℕ → ℕ → Refusal
 refusal_of k v =
     cond (eqb k 1) (Refusal.TooLong v)
@@ -26,15 +22,15 @@ refusal_of k v =
     (cond (eqb k 7) (Refusal.IndexFull v)
     (cond (eqb k 8) (Refusal.BadLength v)
     (cond (eqb k 9) (Refusal.Foreign v)
-    (cond (eqb k 10) (Refusal.Missing (side_of v))
-    (cond (eqb k 11) (Refusal.MoreThanOnce (side_of v))
+    (cond (eqb k 10) (Refusal.Missing v)
+    (cond (eqb k 11) (Refusal.MoreThanOnce v)
     (cond (eqb k 12) Refusal.OutOfOrder (cond (eqb k 13) Refusal.NoRepeat Refusal.Several))))))))))))
 
 refused : Answer → Refusal
 refused a = refusal_of a.number (get_or a.values 0 0)
 
 refused_back : (r : Refusal) → refused (refused_says r) ≡ r
-unfolding refused refusal_of side_of refused_says side_number refusal
+unfolding refused refusal_of refused_says refusal
 refused_back (Refusal.TooLong n) = refl
 refused_back (Refusal.OutOfRange w) = refl
 refused_back (Refusal.ListFull c) = refl
@@ -44,10 +40,8 @@ refused_back (Refusal.OutOfPlace k) = refl
 refused_back (Refusal.IndexFull c) = refl
 refused_back (Refusal.BadLength k) = refl
 refused_back (Refusal.Foreign k) = refl
-refused_back (Refusal.Missing Side.Left) = refl
-refused_back (Refusal.Missing Side.Right) = refl
-refused_back (Refusal.MoreThanOnce Side.Left) = refl
-refused_back (Refusal.MoreThanOnce Side.Right) = refl
+refused_back (Refusal.Missing s) = refl
+refused_back (Refusal.MoreThanOnce s) = refl
 refused_back Refusal.OutOfOrder = refl
 refused_back Refusal.NoRepeat = refl
 refused_back Refusal.Several = refl

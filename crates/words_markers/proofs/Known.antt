@@ -10,7 +10,7 @@ use Rattle.words.specs.Range.{first, every, sum, gather, cells, passing}
 use Rattle.words.specs.Reads.{at, letter_of, letter, fits as fits_in, stretch, same, alike}
 use Rattle.words.specs.Repeats.{stands, writes, primitive, repeats, leads, copies}
 use Rattle.words.specs.Logs.{within}
-use Rattle.words.specs.Answers.{success, refusal, side_number, refused_says}
+use Rattle.words.specs.Answers.{success, refusal, refused_says}
 use Rattle.words.specs.Calls.{too_long}
 use Rattle.words.proofs.Known.{A, C}
 use Rattle.words_primers.specs.Bases.{set_in, set_of, lies, matches}
@@ -70,7 +70,7 @@ pub record Known : Type 0 where
   pub nothing : (shown x Ac 0 TGG GTT Ac ≡ None) × (shown x [] 0 GTT TGG [] ≡ None)
 
 pub known : Known
-unfolding bit has first every sum gather cells passing at letter_of letter fits_in stretch same alike stands writes primitive repeats leads copies within success refusal too_long set_in set_of lies matches foreign first_foreign lets_in sits places has_motif between fits fitting fittings breaks line_end line_start has_line house_line house_has none several only seat behind seated seats only_one site_in site side_number refused_says score_of score_at score_answer shown_for shown
+unfolding bit has first every sum gather cells passing at letter_of letter fits_in stretch same alike stands writes primitive repeats leads copies within success refusal too_long set_in set_of lies matches foreign first_foreign lets_in sits places has_motif between fits fitting fittings breaks line_end line_start has_line house_line house_has none several only seat behind seated seats only_one site_in site refused_says score_of score_at score_answer shown_for shown
 known =
     record {
       scored = (refl, refl);

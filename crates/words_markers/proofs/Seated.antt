@@ -16,7 +16,6 @@ use Rattle.words_primers.proofs.Turning.{GoodLength, BadLength, AllOwn, Primer, 
 use Rattle.words_primers.proofs.Places.{Sits, places_sit}
 use Rattle.words_markers.specs.Sites.{seat, behind, seated, seats}
 use Rattle.words.specs.declared.Refusal.{Refusal}
-use Rattle.words.specs.declared.Side.{Side}
 use Rattle.words_markers.specs.declared.Seats.{Seats}
 use Rattle.words_markers.proofs.Counts.{Nowhere, Once, Often, some_is, is_some, none_is, is_none, one_is, is_one, more_is, is_more}
 use Rattle.words_markers.proofs.Seating.{left_missing, right_missing, left_often, right_often, out_of_order, in_order_lem, too_long_lem, left-length, right_length, left-foreign, right_foreign, judged-seats}
@@ -47,8 +46,8 @@ abbrev pub Unseated : List ℕ → List ℕ → List ℕ → Refusal → Type 0
 Unseated x u v (Refusal.TooLong n) = (most < length x) × (n ≡ length x)
 Unseated x u v (Refusal.BadLength k) = (length x ≤ most) × ((BadLength u × (k ≡ length u)) ⊎ (GoodLength u × BadLength v × (k ≡ length v)))
 Unseated x u v (Refusal.Foreign k) = (length x ≤ most) × GoodLength u × GoodLength v × (FirstForeign u k ⊎ (AllOwn u × FirstForeign v k))
-Unseated x u v (Refusal.Missing s) = Good x u v × ((Nowhere (Sits x u) × (s ≡ Side.Left)) ⊎ (Somewhere x u × Nowhere (Sits x v) × (s ≡ Side.Right)))
-Unseated x u v (Refusal.MoreThanOnce s) = Good x u v × Somewhere x v × ((Often (Sits x u) × (s ≡ Side.Left)) ⊎ ((i : ℕ) × Once (Sits x u) i × Often (Sits x v) × (s ≡ Side.Right)))
+Unseated x u v (Refusal.Missing s) = Good x u v × ((Nowhere (Sits x u) × (s ≡ 1)) ⊎ (Somewhere x u × Nowhere (Sits x v) × (s ≡ 2)))
+Unseated x u v (Refusal.MoreThanOnce s) = Good x u v × Somewhere x v × ((Often (Sits x u) × (s ≡ 1)) ⊎ ((i : ℕ) × Once (Sits x u) i × Often (Sits x v) × (s ≡ 2)))
 Unseated x u v Refusal.OutOfOrder = Good x u v × ((i j : ℕ) × Once (Sits x u) i × Once (Sits x v) j × (j < i + length u))
 Unseated x u v Refusal.NoRepeat = ⊥
 Unseated x u v Refusal.Several = ⊥
@@ -84,11 +83,11 @@ module _ (x u v : List ℕ) where
     rights : Rising (Sits x v) (places x v)
     rights = places_sit x v g.right.some
 
-    missing_told : (s : Side) → (Nowhere (Sits x u) × (s ≡ Side.Left)) ⊎ (Somewhere x u × Nowhere (Sits x v) × (s ≡ Side.Right)) → seats x u v ≡ Err (Refusal.Missing s)
+    missing_told : (s : ℕ) → (Nowhere (Sits x u) × (s ≡ 1)) ⊎ (Somewhere x u × Nowhere (Sits x v) × (s ≡ 2)) → seats x u v ≡ Err (Refusal.Missing s)
     missing_told s (inl n) = judged ∙ left_missing x u v (is_none _ _ lefts n.0) ∙ rw n.1
     missing_told s (inr n) = judged ∙ right_missing x u v (is_some _ _ lefts n.0.0 n.0.1) (is_none _ _ rights n.1) ∙ rw n.2
 
-    often_told : (s : Side) → Somewhere x v → (Often (Sits x u) × (s ≡ Side.Left)) ⊎ ((i : ℕ) × Once (Sits x u) i × Often (Sits x v) × (s ≡ Side.Right)) → seats x u v ≡ Err (Refusal.MoreThanOnce s)
+    often_told : (s : ℕ) → Somewhere x v → (Often (Sits x u) × (s ≡ 1)) ⊎ ((i : ℕ) × Once (Sits x u) i × Often (Sits x v) × (s ≡ 2)) → seats x u v ≡ Err (Refusal.MoreThanOnce s)
     often_told s w (inl n) = judged ∙ left_often x u v (is_more _ _ lefts n.0) (is_some _ _ rights w.0 w.1) ∙ rw n.1
     often_told s w (inr n) = judged ∙ right_often x u v (is_one _ _ lefts n.0 n.1).0 (is_more _ _ rights n.2) ∙ rw n.3
 
@@ -143,7 +142,7 @@ module _ (x u v : List ℕ) where
 
   -- the number of places of each primer decides
   seated_so : (g : Good x u v) → (s : Result Seats Refusal) × SeatsSay x u v s
-  seated_so g = ⊎_elim (λ a. (Err (Refusal.Missing Side.Left), (g, inl (none_is _ _ (lefts g) (omega arith), refl)))) (λ a. some_left a (lt_or_ge (length (places x v)) 1)) (lt_or_ge (length (places x u)) 1)
+  seated_so g = ⊎_elim (λ a. (Err (Refusal.Missing 1), (g, inl (none_is _ _ (lefts g) (omega arith), refl)))) (λ a. some_left a (lt_or_ge (length (places x v)) 1)) (lt_or_ge (length (places x u)) 1)
     where
       once : (i j : ℕ) → Once (Sits x u) i → Once (Sits x v) j → (s : Result Seats Refusal) × SeatsSay x u v s
       once i j a b =
@@ -152,13 +151,13 @@ module _ (x u v : List ℕ) where
           (lt_or_ge j (i + length u))
 
       one_left : length (places x u) ≡ 1 → 1 ≤ length (places x v) → (1 < length (places x v)) ⊎ (length (places x v) ≤ 1) → (s : Result Seats Refusal) × SeatsSay x u v s
-      one_left a b (inl c) = (Err (Refusal.MoreThanOnce Side.Right), (g, (_, some_is _ _ (rights g) b), inr (_, one_is _ _ (lefts g) a, more_is _ _ (rights g) c, refl)))
+      one_left a b (inl c) = (Err (Refusal.MoreThanOnce 2), (g, (_, some_is _ _ (rights g) b), inr (_, one_is _ _ (lefts g) a, more_is _ _ (rights g) c, refl)))
       one_left a b (inr c) = once _ _ (one_is _ _ (lefts g) a) (one_is _ _ (rights g) (omega arith))
 
       some_left : 1 ≤ length (places x u) → (length (places x v) < 1) ⊎ (1 ≤ length (places x v)) → (s : Result Seats Refusal) × SeatsSay x u v s
-      some_left a (inl b) = (Err (Refusal.Missing Side.Right), (g, inr ((_, some_is _ _ (lefts g) a), none_is _ _ (rights g) (omega arith), refl)))
+      some_left a (inl b) = (Err (Refusal.Missing 2), (g, inr ((_, some_is _ _ (lefts g) a), none_is _ _ (rights g) (omega arith), refl)))
       some_left a (inr b) =
-          ⊎_elim (λ c. (Err (Refusal.MoreThanOnce Side.Left), (g, (_, some_is _ _ (rights g) b), inl (more_is _ _ (lefts g) c, refl))))
+          ⊎_elim (λ c. (Err (Refusal.MoreThanOnce 1), (g, (_, some_is _ _ (rights g) b), inl (more_is _ _ (lefts g) c, refl))))
           (λ c. one_left (omega arith) b (lt_or_ge 1 (length (places x v))))
           (lt_or_ge 1 (length (places x u)))
 

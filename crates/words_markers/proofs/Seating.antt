@@ -14,7 +14,6 @@ use Rattle.words_primers.specs.Primers.{longest, first_foreign, sits, places}
 use Rattle.words_primers.proofs.Places.{sits_means, places_exactly}
 use Rattle.words_markers.specs.Sites.{none, several, only, seat, behind, seated, seats}
 use Rattle.words.specs.declared.Refusal.{Refusal}
-use Rattle.words.specs.declared.Side.{Side}
 
 module _ (l : List ℕ) where
   pub none_yes : length l ≡ 0 → none l ≡ true
@@ -49,19 +48,19 @@ module _ (x u : List ℕ) where
 -- ---- 10, 11 and 12
 
 module _ (x u v : List ℕ) where
-  pub left_missing : length (places x u) ≡ 0 → seated x u v ≡ Err (Refusal.Missing Side.Left)
+  pub left_missing : length (places x u) ≡ 0 → seated x u v ≡ Err (Refusal.Missing 1)
   unfolding seated
   left_missing a = rw (none_yes (places x u) a)
 
-  pub right_missing : 1 ≤ length (places x u) → length (places x v) ≡ 0 → seated x u v ≡ Err (Refusal.Missing Side.Right)
+  pub right_missing : 1 ≤ length (places x u) → length (places x v) ≡ 0 → seated x u v ≡ Err (Refusal.Missing 2)
   unfolding seated
   right_missing a b = rw (none_no (places x u) a, none_yes (places x v) b)
 
-  pub left_often : 1 < length (places x u) → 1 ≤ length (places x v) → seated x u v ≡ Err (Refusal.MoreThanOnce Side.Left)
+  pub left_often : 1 < length (places x u) → 1 ≤ length (places x v) → seated x u v ≡ Err (Refusal.MoreThanOnce 1)
   unfolding seated
   left_often a b = rw (none_no (places x u) (omega arith), none_no (places x v) b, several_yes (places x u) a)
 
-  pub right_often : length (places x u) ≡ 1 → 1 < length (places x v) → seated x u v ≡ Err (Refusal.MoreThanOnce Side.Right)
+  pub right_often : length (places x u) ≡ 1 → 1 < length (places x v) → seated x u v ≡ Err (Refusal.MoreThanOnce 2)
   unfolding seated
   right_often a b = rw (none_no (places x u) (omega arith), none_no (places x v) (omega arith), several_no (places x u) (omega arith), several_yes (places x v) b)
 

@@ -6,7 +6,6 @@ use Rattle.words.specs.Calls.{too_long}
 use Rattle.words_primers.specs.Primers.{longest, first_foreign, places}
 use Rattle.words_markers.specs.Fits.{fittings}
 use Rattle.words.specs.declared.Refusal.{Refusal}
-use Rattle.words.specs.declared.Side.{Side}
 use Rattle.words_markers.specs.declared.Seats.{Seats}
 
 -- a list has none, or more than one; and the one that it has
@@ -29,10 +28,10 @@ behind x u = seat x u + length u
 -- the positions between the primers, after 10, 11 and 12, each for the left primer first
 unfoldable pub seated : List ℕ → List ℕ → List ℕ → Result Seats Refusal
 seated x u v =
-    cond (none (places x u)) (Err (Refusal.Missing Side.Left))
-    (cond (none (places x v)) (Err (Refusal.Missing Side.Right))
-    (cond (several (places x u)) (Err (Refusal.MoreThanOnce Side.Left))
-    (cond (several (places x v)) (Err (Refusal.MoreThanOnce Side.Right))
+    cond (none (places x u)) (Err (Refusal.Missing 1))
+    (cond (none (places x v)) (Err (Refusal.Missing 2))
+    (cond (several (places x u)) (Err (Refusal.MoreThanOnce 1))
+    (cond (several (places x v)) (Err (Refusal.MoreThanOnce 2))
     (cond (ltb (seat x v) (behind x u)) (Err Refusal.OutOfOrder)
     (Ok (record { from = (behind x u); to = (seat x v) }))))))
 

@@ -3,7 +3,7 @@ use Prim.Native.Nat.{ℕ}
 use mathlib.Core.Path.{◌≡◌, sym, ◌∙◌}
 use mathlib.Core.List.{List}
 use native.Mathlib.Omega.{arith}
-use Rattle.std.specs.Prelude.{Option}
+use Rattle.std.specs.Prelude.{Result}
 use Rattle.words.specs.Range.{gather}
 use Rattle.words.specs.Rows.{rows as rows_of}
 use Rattle.words_runs.specs.Runs.{run_size, run_start, run_end, run_period}
@@ -13,12 +13,12 @@ use Rattle.row_matches.proofs.Matching.{range_none, range_next, passes_all}
 use Rattle.bench_accords.proofs.runs_agree.Goals as goal
 
 -- after the last run
-all-agree : (list s : List ℕ) (k : ℕ) (m : Option ℕ) → k ≡ rows_of run_size s → Passes (gather (lines_by_row s) k 0) list nothing m → at_end list m ≡ agree list s
+all-agree : (list s : List ℕ) (k : ℕ) (m : Result ℕ ℕ) → k ≡ rows_of run_size s → Passes (gather (lines_by_row s) k 0) list nothing m → at_end list m ≡ agree list s
 unfolding agree lines_by_runs
 all-agree list s k m e h = rw (← e) (sym (passes_all h))
 
 -- one run
-by_row : (s : List ℕ) (k : ℕ) {a b p : ℕ} {list : List ℕ} {m n : Option ℕ} → a ≡ run_start s k → b ≡ run_end s k → p ≡ run_period s k
+by_row : (s : List ℕ) (k : ℕ) {a b p : ℕ} {list : List ℕ} {m n : Result ℕ ℕ} → a ≡ run_start s k → b ≡ run_end s k → p ≡ run_period s k
     → Passes (lines_by a b p) list m n → Passes (lines_by_row s k) list m n
 unfolding lines_by_row
 by_row s k ea eb ep h = rw (← ea, ← eb, ← ep) h

@@ -4,7 +4,7 @@ use mathlib.Core.Path.{◌≡◌, sym, ◌∙◌}
 use mathlib.Core.List.{List}
 use native.Mathlib.Omega.{arith}
 use lib.ListN.{length}
-use Rattle.std.specs.Prelude.{Option}
+use Rattle.std.specs.Prelude.{Result}
 use Rattle.words.specs.Range.{gather}
 use Rattle.row_matches.specs.Matching.{nothing, at_end, Passes}
 use Rattle.row_matches.proofs.Matching.{range_none, range_next, passes_all}
@@ -12,7 +12,7 @@ use Rattle.bench_agrees.specs.Agreement.{line_in, lines_in, agrees_at}
 use Rattle.bench_agrees.proofs.agree_all.Goals as goal
 
 -- after the last position
-all-passed : (t : List ℕ) (p i : ℕ) (lines : List ℕ) (m : Option ℕ) → length t ≡ i → Passes (gather (line_in t p) i 1) lines nothing m → at_end lines m ≡ agrees_at t p lines
+all-passed : (t : List ℕ) (p i : ℕ) (lines : List ℕ) (m : Result ℕ ℕ) → length t ≡ i → Passes (gather (line_in t p) i 1) lines nothing m → at_end lines m ≡ agrees_at t p lines
 unfolding agrees_at lines_in
 all-passed t p i lines m e h = rw e (sym (passes_all h))
 

@@ -7,7 +7,6 @@ use mir.ValLaws.{to_z-of_z}
 use Rattle.words.specs.Answers.{success}
 use Rattle.words_markers.specs.Calls.{scored_says}
 use Rattle.marker_answers.specs.Scores.{plain_score}
-use Rattle.marker_answers.proofs.Refused.{refused-plain}
 use Rattle.marker_answers.proofs.scored.Goals as goal
 
 pub returns-in-Ok : goal.returns-in-Ok
@@ -15,6 +14,3 @@ unfolding plain_score scored_says success
 returns-in-Ok c =
     let back : to_z w32 (of_z w32 c.in-Ok.score.difference) ≡ c.in-Ok.score.difference = to_z-of_z w32 _ (record { sfits = search rules }) in
     rw (c.in_twos.ensures, c.in-Ok.is, back) refl
-
-pub returns-in-Err : goal.returns-in-Err
-returns-in-Err c = c.refused.ensures ∙ rw c.in-Err.is (refused-plain _)
