@@ -1,5 +1,5 @@
 -- `marker_answers::scored` meets its contract, case by case. Assumes nothing.
-use mathlib.Core.Path.{◌≡◌, refl, ◌∙◌}
+use mathlib.Core.Path.{◌≡◌, refl}
 use borrow.Author.Rules.{rules}
 use mir.Syntax.{w32}
 use mir.Val.{of_z, to_z}
