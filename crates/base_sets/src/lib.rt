@@ -30,7 +30,7 @@ pub fn set_in(sets: &[u8; 26], byte: u8) -> u8
     ensures { (result ≡ set_of byte) × (result < 16) }
 {
     if byte.is_ascii_uppercase() {
-        sets[(byte - b'A') as usize]
+        sets[byte as usize - b'A' as usize]
     } else {
         0
     }

@@ -1,6 +1,6 @@
 -- A loop over the starts of a period: the rows of all places up to the last one that was taken are written, for where there is no start there is no
 -- row, and no count is asked of. Assumes nothing.
-use Prim.Native.Nat.{ℕ, ◌+◌, ◌-◌, ◌≤◌}
+use Prim.Native.Nat.{ℕ, suc, ◌+◌, ◌-◌, ◌≤◌, ◌<◌}
 use mathlib.Core.Path.{◌≡◌, refl, sym, ◌∙◌}
 use mathlib.Core.Logic.{⊎_elim, ◌≢◌}
 use mathlib.Core.List.{List, []}
@@ -8,15 +8,16 @@ use native.Mathlib.Omega.{arith}
 use lib.ListN.{length}
 use lib.Dec.{eqb}
 use borrow.Author.Tests.{eqb-true, eqb-false}
+use Rattle.std.specs.Prelude.{Option, Some, None, sum}
 use Rattle.words.specs.Range.{gather}
 use Rattle.words.specs.Reads.{at}
 use Rattle.words.proofs.Tests.{either}
 use Rattle.row_cells.specs.Listing.{Adds}
 use Rattle.row_cells.proofs.Adding.{adds_none, adds_next}
 use Rattle.slots.specs.Slots.{put}
-use Rattle.step2_bits.specs.Sets.{Empty, First, Where}
+use Rattle.step2_bits.specs.Sets.{Empty, First, LeastTaken, Where}
 use Rattle.bits.proofs.Digits.{one_zero}
-use Rattle.step2_bits.proofs.Emptying.{After, after_none, taken_on, between, taken-is, gather_before, taken, gather_all}
+use Rattle.step2_bits.proofs.Emptying.{After, after_none, taken_on, between, taken-is, gather_before, taken, gather_all, taken_less}
 use Rattle.call_periods.specs.declared.Sight.{Sight}
 use Rattle.call_periods.specs.Periods.{row_size, row_in, rows_in, Kept}
 use Rattle.call_periods.proofs.Rows.{row_in_none, kept_none, kept_on}
@@ -32,6 +33,22 @@ pub record Turn (dist : List ℕ) (sight : Sight) (p prior : ℕ) (old : List �
   pub rows : Adds (row_size sight) prior k (gather (row_in dist sight p) done 1) old out
   pub few : k ≤ prior + done
   pub kept : Kept dist sight p (done + 1) count
+
+-- and the least of those that are left is taken out as well, for the next turn
+pub record Ahead (dist : List ℕ) (sight : Sight) (p prior : ℕ) (old : List ℕ) (k : ℕ) (out count : List ℕ) (next : Option ℕ) (rest : List ℕ) : Type 0 where
+  pub left : List ℕ
+  pub turn : Turn dist sight p prior old k out count left
+  pub taken : LeastTaken left next rest
+
+-- how many places are to come
+pub to_come : Option ℕ → List ℕ → ℕ
+to_come None rest = sum rest
+to_come (Some s) rest = suc (sum rest)
+
+pub to_come_less : (s : ℕ) (f : List ℕ) → length f ≡ 1000 → (next : Option ℕ) (rest : List ℕ) → LeastTaken f next rest → to_come next rest < to_come (Some s) f
+unfolding to_come
+to_come_less s f l None rest L = rw L.1 (omega arith)
+to_come_less s f l (Some i) rest L = omega (arith, taken_less f l i L.0 L.1 rest L.2)
 
 module _ (dist : List ℕ) (sight : Sight) (p prior : ℕ) (old : List ℕ) where
   -- none is taken yet

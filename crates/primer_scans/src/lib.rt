@@ -8,7 +8,7 @@ ghost use Rattle.words_primers.specs.Primers.{longest, places};
 ghost use Rattle.row_cells.specs.Listing.{Listing};
 ghost use Rattle.primer_scans.specs.Fronts.{Words, Noted, AllLet};
 
-use base_sets::{letter_sets, matches, set_in, set_of};
+use base_sets::{letter_sets, matches, set_in};
 use row_cells::add;
 
 // letter k of a primer, which has this set, lets in each set that lies inside it
@@ -29,8 +29,9 @@ fn letting(primer: &[u8]) -> [u64; 16]
     ensures { AllLet primer.now (length primer.now) result }
 {
     let mut all = [0u64; 16];
+    let sets = letter_sets();
     for (k, b) in primer.iter().enumerate() {
-        note(&mut all, set_of(*b), k);
+        note(&mut all, set_in(&sets, *b), k);
     }
     all
 }

@@ -6,4 +6,4 @@ pub loop-k-init : goal.loop-k-init
 loop-k-init c = all_start _
 
 pub loop-k-preserved : goal.loop-k-preserved
-loop-k-preserved c = all_more _ _ _ _ c.loop-k.invariant (rw c.set_of.ensures.0 at c.note.ensures)
+loop-k-preserved c = all_more _ _ _ _ c.loop-k.invariant (rw c.set_in.ensures.0 at c.note.ensures)
